@@ -1,0 +1,40 @@
+-- Cuts of a sequence of bits.
+-- Assumes nothing.
+use mathlib.Core.Path.{_≡_, refl, sym, ap, ap₂, _∙_}
+use mathlib.Core.List.{List, [], _∷_, _++_}
+use Prim.Native.Nat.{ℕ, zero, suc, _+_, _≤_, _<_}
+use native.Mathlib.Nat.{not-suc-le-zero, le-of-suc-le-suc, add-zero}
+use native.Mathlib.Omega.{arith}
+use lib.ListN.{length, getD}
+use Rattle.bits.specs.Bits.{cut}
+
+-- a cut of n has n entries
+pub length-cut : {A : Type 0} (g : ℕ → A) (i n : ℕ) → length (cut g i n) ≡ n
+length-cut g i zero = refl
+length-cut g i (suc n) = ap suc (length-cut g (suc i) n)
+
+-- entry j of a cut from i is the sequence at i + j
+pub cut-at : {A : Type 0} (d : A) (g : ℕ → A) (i n j : ℕ) → j < n → getD (cut g i n) j d ≡ g (i + j)
+cut-at d g i zero j h = absurd (not-suc-le-zero h)
+cut-at d g i (suc n) zero h = ap g (sym (add-zero i))
+cut-at d g i (suc n) (suc j) h = cut-at d g (suc i) n j (le-of-suc-le-suc h) ∙ ap g (omega arith)
+
+-- sequences that agree on the cut have the same cut
+pub cut-ext : {A : Type 0} (g h : ℕ → A) (i n : ℕ) → ((j : ℕ) → i ≤ j → j < i + n → g j ≡ h j) → cut g i n ≡ cut h i n
+cut-ext g h i zero e = refl
+cut-ext g h i (suc n) e =
+    ap₂ (λ (x : _) (xs : List _). x ∷ xs) (e i (omega arith) (omega arith)) (cut-ext g h (suc i) n (λ j l m. e j (omega arith) (omega arith)))
+
+-- one entry more, at the end
+pub cut-snoc : {A : Type 0} (g : ℕ → A) (i n : ℕ) → cut g i (suc n) ≡ cut g i n ++ (g (i + n) ∷ [])
+cut-snoc g i zero = ap (λ (k : ℕ). g k ∷ []) (sym (add-zero i))
+cut-snoc g i (suc n) = ap (λ (xs : List _). g i ∷ xs) (cut-snoc g (suc i) n ∙ ap (λ (k : ℕ). cut g (suc i) n ++ (g k ∷ [])) (omega arith))
+
+-- a list is the cut of its entries
+pub cut-getD : {A : Type 0} (d : A) (l : List A) → cut (λ j. getD l j d) 0 (length l) ≡ l
+cut-getD d [] = refl
+cut-getD d (x ∷ l) = ap (λ (xs : List _). x ∷ xs) (shift (length l) 0 ∙ cut-getD d l)
+  where
+    shift : (n i : ℕ) → cut (λ j. getD (x ∷ l) j d) (suc i) n ≡ cut (λ j. getD l j d) i n
+    shift zero i = refl
+    shift (suc n) i = ap (λ (xs : List _). getD l i d ∷ xs) (shift n (suc i))

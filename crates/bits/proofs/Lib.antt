@@ -1,0 +1,5 @@
+pub mod Every
+pub mod Patterns
+pub mod Count
+pub mod Value
+pub mod Cut

@@ -1,0 +1,4 @@
+pub mod Lengths
+pub mod Repairs
+pub mod Syndromes
+pub mod Words

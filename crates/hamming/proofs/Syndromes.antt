@@ -1,0 +1,67 @@
+-- What is asked for at every syndrome of every word: each bit's column flips that bit, parity bits included, an even one erases word A, and only zero and the spare's column let a word stand.
+-- Assumes nothing.
+use mathlib.Core.Path.{_≡_, refl, ap}
+use mathlib.Core.Bool.{Bool, true, false, _&&_, _||_, not}
+use mathlib.Core.List.{List, [], _∷_}
+use Prim.Native.Nat.{ℕ, _%_, _≤_, _<_}
+use lib.Dec.{T, eqb, eqb→eq, ltb}
+use lib.ListN.{length}
+use Rattle.bits.specs.Bits.{ones, same, cut}
+use Rattle.bits.proofs.Every.{every, every-at}
+use Rattle.bits.proofs.Patterns.{words, words-at}
+use Rattle.hamming.specs.Word.{checkBits, column, parityOf, Fix, stand, flip, erase, fixOf}
+use Rattle.hamming.proofs.Lengths.{lengths, lengths-at}
+
+-- the columns are those of the parity matrices of 5.4, then one for each parity bit
+pub columns-eight : cut (column 8) 0 8 ≡
+    (true ∷ true ∷ false ∷ true ∷ []) ∷ (true ∷ false ∷ true ∷ true ∷ []) ∷ (false ∷ true ∷ true ∷ true ∷ []) ∷ (true ∷ true ∷ true ∷ false ∷ [])
+    ∷ (true ∷ false ∷ false ∷ false ∷ []) ∷ (false ∷ true ∷ false ∷ false ∷ []) ∷ (false ∷ false ∷ true ∷ false ∷ []) ∷ (false ∷ false ∷ false ∷ true ∷ []) ∷ []
+columns-eight = refl
+
+pub columns-seven : cut (column 7) 0 7 ≡
+    (true ∷ true ∷ false ∷ []) ∷ (true ∷ false ∷ true ∷ []) ∷ (false ∷ true ∷ true ∷ []) ∷ (true ∷ true ∷ true ∷ [])
+    ∷ (true ∷ false ∷ false ∷ []) ∷ (false ∷ true ∷ false ∷ []) ∷ (false ∷ false ∷ true ∷ []) ∷ []
+columns-seven = refl
+
+-- the column of word B's spare: what its fourth data bit would leave
+abbrev pub spareColumn : List Bool
+spareColumn = parityOf 6 (false ∷ false ∷ false ∷ true ∷ [])
+
+isFlip : ℕ → Fix → Bool
+isFlip k stand = false
+isFlip k (flip j) = eqb j k
+isFlip k erase = false
+
+isFlip-eq : (k : ℕ) (f : Fix) → T (isFlip k f) → f ≡ flip k
+unfolding isFlip
+isFlip-eq k stand t = absurd t
+isFlip-eq k (flip j) t = ap flip (eqb→eq j k t)
+isFlip-eq k erase t = absurd t
+
+flipsBack : ℕ → ℕ → Bool
+flipsBack n k = isFlip k (fixOf n (column n k))
+
+-- the column of any bit, data or parity, flips that bit
+pub column-flips : (n : ℕ) → 6 ≤ n → n ≤ 8 → (k : ℕ) → k < n → fixOf n (column n k) ≡ flip k
+unfolding flipsBack isFlip fixOf
+column-flips n l m k h = isFlip-eq k _ (every-at n (flipsBack n) (lengths-at (λ n. every n (flipsBack n)) tt n l m) k h)
+
+-- what each request says of its syndrome
+abbrev pub explains : ℕ → List Bool → Fix → Bool
+explains n z stand = eqb (ones z) 0 || (eqb n 6 && same z spareColumn)
+explains n z (flip k) = ltb k n && same z (column n k)
+explains n z erase = eqb n 8 && (eqb (ones z % 2) 0 && not (eqb (ones z) 0))
+
+explained : ℕ → List Bool → Bool
+explained n z = explains n z (fixOf n z)
+
+-- every syndrome of every word: it stands for zero or the spare's column in word B, a flip for that bit's column, an erasure for an even one in word A
+pub every-syndrome : (n : ℕ) → 6 ≤ n → n ≤ 8 → (z : List Bool) → length z ≡ checkBits n → T (explains n z (fixOf n z))
+unfolding explained fixOf
+every-syndrome n l m z h = words-at (checkBits n) (explained n) (lengths-at (λ n. words (checkBits n) (explained n)) tt n l m) z h
+
+-- the spare's column is in word B no bit's own: the data stand, nothing repaired
+pub spare-stands : fixOf 6 spareColumn ≡ stand
+unfolding fixOf
+spare-stands = refl
+

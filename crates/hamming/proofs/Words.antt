@@ -1,0 +1,95 @@
+-- A word of n bits as a number: its data are the quotient, its syndrome a sum of two numbers bit by bit, and one bit is flipped by one power of two.
+-- Assumes nothing.
+use mathlib.Core.Path.{_≡_, refl, sym, ap, ap₂, _∙_, subst}
+use mathlib.Core.Bool.{Bool}
+use mathlib.Core.List.{List, [], _∷_}
+use Prim.Native.Nat.{ℕ, zero, suc, _+_, _-_, _/_, _%_, _^_, _≤_, _<_}
+use native.Mathlib.Nat.{mod-lt, lt-of-lt-of-le}
+use lib.Dec.{T, eqb, eqb→eq, leb, leb→le}
+use lib.Bits.{bitXor}
+use lib.ListN.{length, take, drop}
+use lib.Pow.{pow-pos, pow-mono, shr-lt}
+use Rattle.bits.specs.Bits.{_⊕_, value, bits, same}
+use Rattle.bits.proofs.Every.{every, every-at}
+use Rattle.bits.proofs.Patterns.{same-eq, words, words-at}
+use Rattle.bits.proofs.Value.{value-bits, bits-value, bits-mod, take-bits, drop-bits, length-bits, value-lt-at}
+use Rattle.hamming.specs.Word.{checkBits, dataBits, parityOf, dataOf, syndrome, flipAt}
+use Rattle.hamming.proofs.Lengths.{lengths, lengths-at}
+
+-- ---- sums bit by bit
+
+xorSame : ℕ → ℕ → ℕ → Bool
+xorSame k a b = same (bits k (bitXor a b)) (bits k a ⊕ bits k b)
+
+-- the bits of an exclusive or of numbers below 16
+pub xor-bits : (k a b : ℕ) → k < 5 → a < 16 → b < 16 → bits k (bitXor a b) ≡ bits k a ⊕ bits k b
+unfolding xorSame
+xor-bits k a b hk ha hb = same-eq _ _ (every-at 16 (xorSame k a) (every-at 16 (λ a. every 16 (xorSame k a)) (every-at 5 (λ k. every 16 (λ a. every 16 (xorSame k a))) tt k hk) a ha) b hb)
+
+flipSame : ℕ → ℕ → ℕ → Bool
+flipSame n k w = eqb (bitXor w (2 ^ (n - 1 - k))) (value (flipAt k (bits n w)))
+
+allFlips : ℕ → Bool
+allFlips n = every n (λ k. every (2 ^ n) (flipSame n k))
+
+-- one bit flipped is an exclusive or with its weight
+pub flip-is : (n k w : ℕ) → 6 ≤ n → n ≤ 8 → k < n → w < 2 ^ n → bitXor w (2 ^ (n - 1 - k)) ≡ value (flipAt k (bits n w))
+unfolding flipSame allFlips
+flip-is n k w l m hk hw = eqb→eq _ _ (every-at (2 ^ n) (flipSame n k) (every-at n (λ k. every (2 ^ n) (flipSame n k)) (lengths-at allFlips tt n l m) k hk) w hw)
+
+pub length-flip : (k : ℕ) (l : List Bool) → length (flipAt k l) ≡ length l
+length-flip k [] = refl
+length-flip zero (b ∷ l) = refl
+length-flip (suc k) (b ∷ l) = ap suc (length-flip k l)
+
+-- ---- a word of n bits
+
+module _ (n : ℕ) (l : 6 ≤ n) (m : n ≤ 8) where
+  -- data and parity make up the word
+  pub split-length : dataBits n + checkBits n ≡ n
+  split-length = eqb→eq _ _ (lengths-at (λ n. eqb (dataBits n + checkBits n) n) tt n l m)
+
+  pub check-le : checkBits n ≤ 4
+  check-le = leb→le _ _ (lengths-at (λ n. leb (checkBits n) 4) tt n l m)
+
+  -- the data of a word's bits are those of the quotient
+  pub data-is : (w : ℕ) → dataOf n (bits n w) ≡ bits (dataBits n) (w / 2 ^ checkBits n)
+  data-is w = ap (λ (k : ℕ). take (dataBits n) (bits k w)) (sym split-length) ∙ take-bits (dataBits n) (checkBits n) w
+
+  data-lt : (w : ℕ) → w < 2 ^ n → w / 2 ^ checkBits n < 2 ^ dataBits n
+  data-lt w h = shr-lt (dataBits n) (checkBits n) (subst (λ (k : ℕ). w < 2 ^ k) (sym split-length) h)
+
+  -- as a number they are the quotient
+  pub data-value : (w : ℕ) → w < 2 ^ n → value (dataOf n (bits n w)) ≡ w / 2 ^ checkBits n
+  data-value w h = ap value (data-is w) ∙ value-bits (dataBits n) (w / 2 ^ checkBits n) (data-lt w h)
+
+  -- the data after a flip are the quotient of the flipped word
+  pub data-flipped : (k w : ℕ) → value (dataOf n (flipAt k (bits n w))) ≡ value (flipAt k (bits n w)) / 2 ^ checkBits n
+  data-flipped k w =
+      let e : length (flipAt k (bits n w)) ≡ n = length-flip k (bits n w) ∙ length-bits n w in
+      ap (λ (x : List Bool). value (dataOf n x)) (sym (bits-value n (flipAt k (bits n w)) e)) ∙ data-value (value (flipAt k (bits n w))) (value-lt-at n (flipAt k (bits n w)) e)
+
+  -- the parity that belongs to a word's data
+  abbrev pub expected : ℕ → ℕ
+  expected w = value (parityOf n (bits (dataBits n) (w / 2 ^ checkBits n)))
+
+  parity-length : (d : List Bool) → length d ≡ dataBits n → length (parityOf n d) ≡ checkBits n
+  parity-length d h = eqb→eq _ _ (words-at (dataBits n) (λ d. eqb (length (parityOf n d)) (checkBits n)) (lengths-at (λ n. words (dataBits n) (λ d. eqb (length (parityOf n d)) (checkBits n))) tt n l m) d h)
+
+  expected-bits : (w : ℕ) → bits (checkBits n) (expected w) ≡ parityOf n (dataOf n (bits n w))
+  expected-bits w = bits-value (checkBits n) _ (parity-length _ (length-bits (dataBits n) _)) ∙ ap (parityOf n) (sym (data-is w))
+
+  small : (x : ℕ) → x < 2 ^ checkBits n → x < 16
+  small x h = lt-of-lt-of-le h (pow-mono check-le)
+
+  pub expected-lt : (w : ℕ) → expected w < 16
+  expected-lt w = small _ (value-lt-at (checkBits n) _ (parity-length _ (length-bits (dataBits n) _)))
+
+  pub received-lt : (w : ℕ) → w % 2 ^ checkBits n < 16
+  received-lt w = small _ (mod-lt w (pow-pos (checkBits n)))
+
+  -- the syndrome is received parity plus that of the data
+  pub syndrome-is : (w : ℕ) → bits (checkBits n) (bitXor (w % 2 ^ checkBits n) (expected w)) ≡ syndrome n (bits n w)
+  syndrome-is w =
+      xor-bits (checkBits n) _ _ (Prim.Native.Nat.suc-le-suc check-le) (received-lt w) (expected-lt w)
+      ∙ ap₂ _⊕_ (bits-mod (checkBits n) w ∙ sym (ap (λ (k : ℕ). drop (dataBits n) (bits k w)) (sym split-length) ∙ drop-bits (dataBits n) (checkBits n) w)) (expected-bits w)

@@ -1,0 +1,16 @@
+// The four protected words of an unvoiced frame: parity, syndrome and repair.
+pub mod parity;
+pub mod repair;
+
+// How many bits a word has: eight in A, six in B, seven in C and D.
+pub enum WordLength {
+    Six,
+    Seven,
+    Eight,
+}
+
+// A received word: its data, u0 most significant, with how many bits were repaired; or an erasure.
+pub enum Decoded {
+    Read(u8, u8),
+    Erased,
+}

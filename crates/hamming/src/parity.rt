@@ -1,0 +1,35 @@
+// The parity bits of a word.
+use crate::WordLength;
+
+ghost use mathlib.Core.Path.{_≡_};
+ghost use Prim.Native.Nat.{_<_};
+ghost use Rattle.bits.specs.Bits.{value, bits};
+ghost use Rattle.hamming.specs.Word.{lengthOf, dataBits, parity, parityOf};
+
+// The four parity bits of four data bits, p0 most significant.
+fn all_parity(u: u8) -> u8
+    requires { ⌜ u < 16 ⌝ }
+    ensures { λ r. ⌜ r ≡ value (parity (bits 4 u)) ⌝ }
+{
+    let u0 = u / 8;
+    let u1 = u / 4 % 2;
+    let u2 = u / 2 % 2;
+    let u3 = u % 2;
+    let p0 = (u0 + u1 + u3) % 2;
+    let p1 = (u0 + u2 + u3) % 2;
+    let p2 = (u1 + u2 + u3) % 2;
+    let p3 = (u0 + u1 + u2) % 2;
+    p0 * 8 + p1 * 4 + p2 * 2 + p3
+}
+
+// The parity bits of the data in the low bits of a number, p0 most significant. Only the longest word
+// has p3, and the fourth data bit of the shortest is 0.
+pub fn parity_of(length: WordLength, u: u8) -> u8
+    ensures { λ r. ⌜ r ≡ value (parityOf (lengthOf length) (bits (dataBits (lengthOf length)) u)) ⌝ }
+{
+    match length {
+        WordLength::Six => all_parity(u % 8 * 2) / 2,
+        WordLength::Seven => all_parity(u % 16) / 2,
+        WordLength::Eight => all_parity(u % 16),
+    }
+}

@@ -1,0 +1,76 @@
+// Reading a received word: its syndrome tells the bit to flip back, if any.
+use crate::parity::parity_of;
+use crate::{Decoded, WordLength};
+
+ghost use mathlib.Core.Path.{_≡_};
+ghost use Prim.Native.Nat.{_≤_, _<_, _^_};
+ghost use Rattle.bits.specs.Bits.{value, bits};
+ghost use Rattle.hamming.specs.Word.{lengthOf, checkBits, flipAt, fixOf, decode};
+ghost use Rattle.hamming.specs.Table.{entryOf};
+
+// What a syndrome asks of a word of n bits, as the table writes it.
+fn fix_of(n: usize, syndrome: u8) -> u8
+    requires { ⌜ (6 ≤ n) × (n ≤ 8) × (syndrome < 16) ⌝ }
+    ensures { λ r. ⌜ r ≡ entryOf (fixOf n (bits (checkBits n) syndrome)) ⌝ }
+{
+    FIXES[n - 6][syndrome as usize]
+}
+
+// The weight of the lowest data bit: the parity bits stand below it.
+fn data_weight(n: usize) -> u8
+    ensures { λ r. ⌜ r ≡ 2 ^ checkBits n ⌝ }
+{
+    if n == 8 {
+        16
+    } else {
+        8
+    }
+}
+
+// A word of n bits with bit k, counted from the first, flipped.
+fn flipped(n: usize, word: u8, k: usize) -> u8
+    requires { ⌜ (6 ≤ n) × (n ≤ 8) × (k < n) × (word < 2 ^ n) ⌝ }
+    ensures { λ r. ⌜ r ≡ value (flipAt k (bits n word)) ⌝ }
+{
+    word ^ (1 << (n - 1 - k))
+}
+
+// A word of n bits.
+fn decode_word(length: WordLength, n: usize, word: u8) -> Decoded
+    requires { ⌜ (n ≡ lengthOf length) × (word < 2 ^ n) ⌝ }
+    ensures { λ r. ⌜ r ≡ decode n (bits n word) ⌝ }
+{
+    let weight = data_weight(n);
+    let syndrome = (word % weight) ^ parity_of(length, word / weight);
+    let fix = fix_of(n, syndrome);
+    if fix == ERASE {
+        return Decoded::Erased;
+    }
+    if fix == STAND {
+        return Decoded::Read(word / weight, 0);
+    }
+    Decoded::Read(flipped(n, word, fix as usize) / weight, 1)
+}
+
+// The word in the low bits of a number.
+pub fn decode(length: WordLength, word: u8) -> Decoded
+    ensures { λ r. ⌜ r ≡ decode (lengthOf length) (bits (lengthOf length) word) ⌝ }
+{
+    match length {
+        WordLength::Six => decode_word(length, 6, word % 64),
+        WordLength::Seven => decode_word(length, 7, word % 128),
+        WordLength::Eight => decode_word(length, 8, word),
+    }
+}
+
+// The table's marks where no bit is flipped.
+const STAND: u8 = 8;
+const ERASE: u8 = 9;
+
+// The table of tables: a row for the words of six, seven and eight bits, in it for each syndrome the
+// bit to flip, counted from the first, or a mark. Three parity bits fill half a row, so it has them twice.
+const FIXES: [[u8; 16]; 3] = [
+    [8, 5, 4, 2, 3, 1, 0, 8, 8, 5, 4, 2, 3, 1, 0, 8],
+    [8, 6, 5, 2, 4, 1, 0, 3, 8, 6, 5, 2, 4, 1, 0, 3],
+    [8, 7, 6, 9, 5, 9, 9, 2, 4, 9, 9, 1, 9, 0, 3, 9],
+];

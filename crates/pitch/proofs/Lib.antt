@@ -1,0 +1,4 @@
+pub mod ByOnes
+pub mod Codes
+pub mod Damage
+pub mod Standard
