@@ -2,3 +2,6 @@ pub mod Lengths
 pub mod Repairs
 pub mod Syndromes
 pub mod Words
+pub mod Entries
+pub mod Parities
+pub mod Outcomes

@@ -64,4 +64,3 @@ every-syndrome n l m z h = words-at (checkBits n) (explained n) (lengths-at (λ 
 pub spare-stands : fixOf 6 spareColumn ≡ stand
 unfolding fixOf
 spare-stands = refl
-

@@ -3,13 +3,14 @@
 use mathlib.Core.Path.{_≡_, refl, sym, ap, ap₂, _∙_, subst}
 use mathlib.Core.Bool.{Bool}
 use mathlib.Core.List.{List, [], _∷_}
-use Prim.Native.Nat.{ℕ, zero, suc, _+_, _-_, _/_, _%_, _^_, _≤_, _<_}
+use Prim.Native.Nat.{ℕ, zero, suc, _+_, _-_, _/_, _%_, _^_, _≤_, _<_, suc-le-suc}
 use native.Mathlib.Nat.{mod-lt, lt-of-lt-of-le}
 use lib.Dec.{T, eqb, eqb→eq, leb, leb→le}
 use lib.Bits.{bitXor}
 use lib.ListN.{length, take, drop}
 use lib.Pow.{pow-pos, pow-mono, shr-lt}
 use Rattle.bits.specs.Bits.{_⊕_, value, bits, same}
+use Rattle.bits.proofs.Count.{length-⊕}
 use Rattle.bits.proofs.Every.{every, every-at}
 use Rattle.bits.proofs.Patterns.{same-eq, words, words-at}
 use Rattle.bits.proofs.Value.{value-bits, bits-value, bits-mod, take-bits, drop-bits, length-bits, value-lt-at}
@@ -77,19 +78,30 @@ module _ (n : ℕ) (l : 6 ≤ n) (m : n ≤ 8) where
   parity-length d h = eqb→eq _ _ (words-at (dataBits n) (λ d. eqb (length (parityOf n d)) (checkBits n)) (lengths-at (λ n. words (dataBits n) (λ d. eqb (length (parityOf n d)) (checkBits n))) tt n l m) d h)
 
   expected-bits : (w : ℕ) → bits (checkBits n) (expected w) ≡ parityOf n (dataOf n (bits n w))
-  expected-bits w = bits-value (checkBits n) _ (parity-length _ (length-bits (dataBits n) _)) ∙ ap (parityOf n) (sym (data-is w))
+  expected-bits w =
+      let d : List Bool = bits (dataBits n) (w / 2 ^ checkBits n) in
+      bits-value (checkBits n) (parityOf n d) (parity-length d (length-bits (dataBits n) (w / 2 ^ checkBits n))) ∙ ap (parityOf n) (sym (data-is w))
 
   small : (x : ℕ) → x < 2 ^ checkBits n → x < 16
   small x h = lt-of-lt-of-le h (pow-mono check-le)
 
   pub expected-lt : (w : ℕ) → expected w < 16
-  expected-lt w = small _ (value-lt-at (checkBits n) _ (parity-length _ (length-bits (dataBits n) _)))
+  expected-lt w =
+      let d : List Bool = bits (dataBits n) (w / 2 ^ checkBits n) in
+      small (expected w) (value-lt-at (checkBits n) (parityOf n d) (parity-length d (length-bits (dataBits n) (w / 2 ^ checkBits n))))
 
   pub received-lt : (w : ℕ) → w % 2 ^ checkBits n < 16
   received-lt w = small _ (mod-lt w (pow-pos (checkBits n)))
 
+  parity-place : (w : ℕ) → drop (dataBits n) (bits n w) ≡ bits (checkBits n) w
+  parity-place w = ap (λ (k : ℕ). drop (dataBits n) (bits k w)) (sym split-length) ∙ drop-bits (dataBits n) (checkBits n) w
+
+  -- a syndrome has as many bits as the parity
+  pub syndrome-length : (w : ℕ) → length (syndrome n (bits n w)) ≡ checkBits n
+  syndrome-length w = length-⊕ (drop (dataBits n) (bits n w)) _ ∙ ap length (parity-place w) ∙ length-bits (checkBits n) w
+
   -- the syndrome is received parity plus that of the data
   pub syndrome-is : (w : ℕ) → bits (checkBits n) (bitXor (w % 2 ^ checkBits n) (expected w)) ≡ syndrome n (bits n w)
   syndrome-is w =
-      xor-bits (checkBits n) _ _ (Prim.Native.Nat.suc-le-suc check-le) (received-lt w) (expected-lt w)
-      ∙ ap₂ _⊕_ (bits-mod (checkBits n) w ∙ sym (ap (λ (k : ℕ). drop (dataBits n) (bits k w)) (sym split-length) ∙ drop-bits (dataBits n) (checkBits n) w)) (expected-bits w)
+      xor-bits (checkBits n) _ _ (suc-le-suc check-le) (received-lt w) (expected-lt w)
+      ∙ ap₂ _⊕_ (bits-mod (checkBits n) w ∙ sym (parity-place w)) (expected-bits w)

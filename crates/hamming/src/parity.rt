@@ -1,6 +1,5 @@
 // The parity bits of a word.
 use crate::WordLength;
-
 ghost use mathlib.Core.Path.{_≡_};
 ghost use Prim.Native.Nat.{_<_};
 ghost use Rattle.bits.specs.Bits.{value, bits};

@@ -1,7 +1,7 @@
 // Reading a received word: its syndrome tells the bit to flip back, if any.
+use crate::Decoded;
+use crate::WordLength;
 use crate::parity::parity_of;
-use crate::{Decoded, WordLength};
-
 ghost use mathlib.Core.Path.{_≡_};
 ghost use Prim.Native.Nat.{_≤_, _<_, _^_};
 ghost use Rattle.bits.specs.Bits.{value, bits};
@@ -18,13 +18,9 @@ fn fix_of(n: usize, syndrome: u8) -> u8
 
 // The weight of the lowest data bit: the parity bits stand below it.
 fn data_weight(n: usize) -> u8
-    ensures { λ r. ⌜ r ≡ 2 ^ checkBits n ⌝ }
+    ensures { λ r. ⌜ (r ≡ 2 ^ checkBits n) × (0 < r) ⌝ }
 {
-    if n == 8 {
-        16
-    } else {
-        8
-    }
+    if n == 8 { 16 } else { 8 }
 }
 
 // A word of n bits with bit k, counted from the first, flipped.
@@ -65,6 +61,7 @@ pub fn decode(length: WordLength, word: u8) -> Decoded
 
 // The table's marks where no bit is flipped.
 const STAND: u8 = 8;
+
 const ERASE: u8 = 9;
 
 // The table of tables: a row for the words of six, seven and eight bits, in it for each syndrome the

@@ -1,49 +1,57 @@
+-- `hamming::parity::parity_of` meets its contract: each length has its part of the four parity bits. Assumes nothing.
+use mathlib.Core.Path.{_≡_, refl, sym, ap, _∙_, subst⁻¹}
+use Prim.Native.Nat.{ℕ, _/_, _%_, _*_}
+use native.Mathlib.Nat.{mul-one, div-one}
+use lib.Dec.{lit≤}
 use borrow.Author.Needs.{needs}
+use Rattle.bits.specs.Bits.{value, bits}
+use Rattle.hamming.specs.Word.{lengthOf, dataBits, parity, parityOf}
+use Rattle.hamming.specs.declared.WordLength.{WordLength}
+use Rattle.hamming.proofs.Parities.{parity-is}
 use Rattle.hamming.proofs.parity.parity_of.Statement.{statement}
 use Rattle.hamming.proofs.parity.parity_of.Tie as tie
-use Rattle.hamming.proofs.parity.parity_of.Reads as reads
-use Rattle.hamming.proofs.parity.parity_of.Lts as lts
-use Rattle.hamming.proofs.parity.all_parity.Reads as all-parity-reads
 
--- src/parity.rt:31:39
+-- what is claimed of a result
+abbrev Claim : ℕ → ℕ → WordLength → Type 0
+Claim r u l = r ≡ value (parityOf (lengthOf l) (bits (dataBits (lengthOf l)) u))
+
 enum-told : tie.Need-enum-told
 enum-told c = search needs
 
--- src/parity.rt:31:39
 mul-all-parity : tie.Need-mul-all-parity
 mul-all-parity c = search needs
 
--- src/parity.rt:31:28
 all-parity-requires : tie.Need-all-parity-requires
 all-parity-requires c κs = search needs
 
--- src/parity.rt:32:41
 enum-told-2 : tie.Need-enum-told-2
 enum-told-2 c = search needs
 
--- src/parity.rt:32:30
 all-parity-requires-2 : tie.Need-all-parity-requires-2
 all-parity-requires-2 c κs = search needs
 
--- src/parity.rt:33:41
 enum-told-3 : tie.Need-enum-told-3
 enum-told-3 c = search needs
 
--- src/parity.rt:33:30
 all-parity-requires-3 : tie.Need-all-parity-requires-3
 all-parity-requires-3 c κs = search needs
 
--- src/parity.rt:27:1
 returns : tie.Need-returns
-returns c = search needs
+returns c =
+    let u = c .before .before .before .args .u in
+    subst⁻¹ (Claim (c .all-parity .result / 2) u) (c .before .enum-told .given .1) (ap (λ (x : ℕ). x / 2) (c .all-parity .ensures) ∙ parity-is 6 (lit≤ tt) (lit≤ tt) u)
 
--- src/parity.rt:27:1
 returns-2 : tie.Need-returns-2
-returns-2 c = search needs
+returns-2 c =
+    let u = c .before .before .before .args .u in
+    subst⁻¹ (Claim (c .all-parity2 .result / 2) u) (c .before .enum-told2 .given .1)
+    (ap (λ (x : ℕ). x / 2) (c .all-parity2 .ensures ∙ ap (λ (x : ℕ). value (parity (bits 4 x))) (sym (mul-one (u % 16)))) ∙ parity-is 7 (lit≤ tt) (lit≤ tt) u)
 
--- src/parity.rt:27:1
 returns-3 : tie.Need-returns-3
-returns-3 c = search needs
+returns-3 c =
+    let u = c .before .before .before .args .u in
+    subst⁻¹ (Claim (c .all-parity3 .result) u) (c .before .enum-told3 .given .1)
+    (c .all-parity3 .ensures ∙ ap (λ (x : ℕ). value (parity (bits 4 x))) (sym (mul-one (u % 16))) ∙ sym (div-one (value (parity (bits 4 (u % 16 * 1))))) ∙ parity-is 8 (lit≤ tt) (lit≤ tt) u)
 
 pub parity-of-spec : {M : Type 1} → statement M
 parity-of-spec =

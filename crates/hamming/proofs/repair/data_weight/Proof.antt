@@ -1,16 +1,14 @@
+-- `hamming::repair::data_weight` meets its contract: each return goes by its test. Assumes nothing.
 use borrow.Author.Needs.{needs}
+use borrow.Author.Tests.{eq-eqb, ne-eqb}
 use Rattle.hamming.proofs.repair.data_weight.Statement.{statement}
 use Rattle.hamming.proofs.repair.data_weight.Tie as tie
-use Rattle.hamming.proofs.repair.data_weight.Reads as reads
-use Rattle.hamming.proofs.repair.data_weight.Lts as lts
 
--- src/repair.rt:20:1
 returns : tie.Need-returns
-returns c = search needs
+returns c = (simp (eq-eqb _ _ (c .if1 .taken)), search needs)
 
--- src/repair.rt:20:1
 returns-2 : tie.Need-returns-2
-returns-2 c = search needs
+returns-2 c = (simp (ne-eqb _ _ (c .if1 .left)), search needs)
 
 pub data-weight-spec : {M : Type 1} → statement M
 data-weight-spec = tie.close (tie.spec returns returns-2)

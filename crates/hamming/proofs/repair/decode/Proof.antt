@@ -1,56 +1,53 @@
+-- `hamming::repair::decode` meets its contract: what stands above the word's bits is taken off. Assumes nothing.
+use mathlib.Core.Path.{_≡_, refl, ap, _∙_, sym, subst⁻¹}
+use Prim.Native.Nat.{ℕ}
 use borrow.Author.Needs.{needs}
+use Rattle.bits.specs.Bits.{bits}
+use Rattle.bits.proofs.Value.{bits-mod}
+use Rattle.hamming.specs.Word.{lengthOf, decode}
+use Rattle.hamming.specs.declared.WordLength.{WordLength}
+use Rattle.hamming.specs.declared.Decoded.{Decoded}
 use Rattle.hamming.proofs.repair.decode.Statement.{statement}
 use Rattle.hamming.proofs.repair.decode.Tie as tie
-use Rattle.hamming.proofs.repair.decode.Reads as reads
-use Rattle.hamming.proofs.repair.decode.Lts as lts
-use Rattle.hamming.proofs.repair.decode_word.Reads as decode-word-reads
 
--- src/repair.rt:60:51
+-- what is claimed of a result
+abbrev Claim : Decoded → ℕ → WordLength → Type 0
+Claim r w l = r ≡ decode (lengthOf l) (bits (lengthOf l) w)
+
 enum-told : tie.Need-enum-told
 enum-told c = search needs
 
--- src/repair.rt:60:28
 decode-word-requires : tie.Need-decode-word-requires
-decode-word-requires c κs = search needs
+decode-word-requires c κs = (ap lengthOf (sym (c .enum-told .given .1)), search needs)
 
--- src/repair.rt:61:53
 enum-told-2 : tie.Need-enum-told-2
 enum-told-2 c = search needs
 
--- src/repair.rt:61:30
 decode-word-requires-2 : tie.Need-decode-word-requires-2
-decode-word-requires-2 c κs = search needs
+decode-word-requires-2 c κs = (ap lengthOf (sym (c .enum-told2 .given .1)), search needs)
 
--- src/repair.rt:62:30
 enum-told-3 : tie.Need-enum-told-3
 enum-told-3 c = search needs
 
--- src/repair.rt:62:30
 decode-word-requires-3 : tie.Need-decode-word-requires-3
-decode-word-requires-3 c κs = search needs
+decode-word-requires-3 c κs = (ap lengthOf (sym (c .enum-told3 .given .1)), search needs)
 
--- src/repair.rt:56:1
 returns : tie.Need-returns
-returns c = search needs
+returns c =
+    let word = c .before .before .before .args .word in
+    subst⁻¹ (Claim (c .decode-word .result) word) (c .before .enum-told .given .1) (c .decode-word .ensures ∙ ap (decode 6) (bits-mod 6 word))
 
--- src/repair.rt:56:1
 returns-2 : tie.Need-returns-2
-returns-2 c = search needs
+returns-2 c =
+    let word = c .before .before .before .args .word in
+    subst⁻¹ (Claim (c .decode-word2 .result) word) (c .before .enum-told2 .given .1) (c .decode-word2 .ensures ∙ ap (decode 7) (bits-mod 7 word))
 
--- src/repair.rt:56:1
 returns-3 : tie.Need-returns-3
-returns-3 c = search needs
+returns-3 c =
+    let word = c .before .before .before .args .word in
+    subst⁻¹ (Claim (c .decode-word3 .result) word) (c .before .enum-told3 .given .1) (c .decode-word3 .ensures)
 
 pub decode-spec : {M : Type 1} → statement M
 decode-spec =
     tie.close
-    (tie.spec
-    enum-told
-    decode-word-requires
-    enum-told-2
-    decode-word-requires-2
-    enum-told-3
-    decode-word-requires-3
-    returns
-    returns-2
-    returns-3)
+    (tie.spec enum-told decode-word-requires enum-told-2 decode-word-requires-2 enum-told-3 decode-word-requires-3 returns returns-2 returns-3)

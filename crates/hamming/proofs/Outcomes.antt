@@ -1,0 +1,50 @@
+-- The outcome of a word of n bits from the table's entry at its syndrome.
+-- Assumes nothing.
+use mathlib.Core.Path.{_≡_, refl, sym, ap, ap₂, _∙_}
+use mathlib.Core.Bool.{Bool}
+use mathlib.Core.List.{List}
+use Prim.Native.Nat.{ℕ, _/_, _%_, _^_, _≤_, _<_}
+use lib.Bits.{bitXor, xor-lt}
+use Rattle.bits.specs.Bits.{value, bits}
+use Rattle.hamming.specs.Word.{checkBits, dataBits, parityOf, syndrome, flipAt, Fix, stand, flip, erase, fixOf, mend, decode}
+use Rattle.hamming.specs.Table.{entryOf}
+use Rattle.hamming.specs.declared.Decoded.{Decoded}
+use Rattle.hamming.specs.declared.Decoded.the-variants.{Read, Erased}
+use Rattle.hamming.proofs.Words.{expected, expected-lt, received-lt, syndrome-length, syndrome-is, data-value, data-flipped}
+use Rattle.hamming.proofs.Entries.{entry-erase, entry-stand, entry-flip}
+
+module _ (n : ℕ) (l : 6 ≤ n) (m : n ≤ 8) (w : ℕ) where
+  -- the number that the table is asked at is below 16
+  pub index-lt : (weight p : ℕ) → weight ≡ 2 ^ checkBits n → p ≡ value (parityOf n (bits (dataBits n) (w / weight))) → bitXor (w % weight) p < 16
+  index-lt weight p e h = rw (h, e) (xor-lt 4 (w % 2 ^ checkBits n) (expected n l m w) (received-lt n l m w) (expected-lt n l m w))
+
+  -- the entry found there is the one of the word's syndrome
+  pub entry-is : (weight p fix : ℕ) → weight ≡ 2 ^ checkBits n → p ≡ value (parityOf n (bits (dataBits n) (w / weight)))
+      → fix ≡ entryOf (fixOf n (bits (checkBits n) (bitXor (w % weight) p))) → fix ≡ entryOf (fixOf n (syndrome n (bits n w)))
+  entry-is weight p fix e h f = f ∙ ap (λ (z : List Bool). entryOf (fixOf n z)) (rw (h, e) (syndrome-is n l m w))
+
+  module _ (h : w < 2 ^ n) (fix : ℕ) (e : fix ≡ entryOf (fixOf n (syndrome n (bits n w)))) where
+    -- the mark of an erasure
+    pub erased : fix ≡ 9 → Erased ≡ decode n (bits n w)
+    unfolding decode
+    erased f = sym (ap (mend n (bits n w)) (entry-erase n l m _ (syndrome-length n l m w) (sym e ∙ f)))
+
+    -- the mark of a word that stands
+    pub stands : fix ≡ 8 → Read (w / 2 ^ checkBits n) 0 ≡ decode n (bits n w)
+    unfolding decode
+    stands f = ap (λ (x : ℕ). Read x 0) (sym (data-value n l m w h)) ∙ sym (ap (mend n (bits n w)) (entry-stand n l m _ (syndrome-length n l m w) (sym e ∙ f)))
+
+    module _ (a : fix ≡ 9 → ⊥) (b : fix ≡ 8 → ⊥) where
+      asks : (fixOf n (syndrome n (bits n w)) ≡ flip (entryOf (fixOf n (syndrome n (bits n w))))) × (entryOf (fixOf n (syndrome n (bits n w))) < n)
+      asks = entry-flip n l m _ (syndrome-length n l m w) (λ f. a (e ∙ f)) (λ f. b (e ∙ f))
+
+      -- any other entry is a bit of the word
+      pub bit-lt : fix < n
+      bit-lt = rw e (asks .1)
+
+      -- which is flipped back
+      pub flips : (x : ℕ) → x ≡ value (flipAt fix (bits n w)) → Read (x / 2 ^ checkBits n) 1 ≡ decode n (bits n w)
+      unfolding decode
+      flips x f =
+          ap (λ (y : ℕ). Read y 1) (ap (λ (y : ℕ). y / 2 ^ checkBits n) f ∙ sym (data-flipped n l m fix w))
+          ∙ sym (ap (mend n (bits n w)) (asks .0 ∙ ap flip (sym e)))

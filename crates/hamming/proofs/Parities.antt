@@ -1,0 +1,31 @@
+-- The parity of a word, as a number made of sums of its data bits.
+-- Assumes nothing.
+use mathlib.Core.Path.{_≡_, refl, sym, ap, _∙_}
+use mathlib.Core.Bool.{Bool}
+use Prim.Native.Nat.{ℕ, _+_, _*_, _-_, _/_, _%_, _^_, _≤_, _<_}
+use native.Mathlib.Nat.{mod-lt}
+use lib.Dec.{T, eqb, eqb→eq}
+use lib.Pow.{pow-pos}
+use Rattle.bits.specs.Bits.{value, bits}
+use Rattle.bits.proofs.Every.{every, every-at, equal-at}
+use Rattle.bits.proofs.Value.{bits-mod}
+use Rattle.hamming.specs.Word.{checkBits, dataBits, parity, parityOf}
+use Rattle.hamming.proofs.Lengths.{lengths, lengths-at}
+
+-- the four parity bits of four data bits, as sums
+abbrev pub sums : ℕ → ℕ
+sums u = (u / 8 + u / 4 % 2 + u % 2) % 2 * 8 + (u / 8 + u / 2 % 2 + u % 2) % 2 * 4 + (u / 4 % 2 + u / 2 % 2 + u % 2) % 2 * 2 + (u / 8 + u / 4 % 2 + u / 2 % 2) % 2
+
+-- they are the parity equations
+pub sums-are : (u : ℕ) → u < 16 → sums u ≡ value (parity (bits 4 u))
+sums-are = equal-at 16 sums (λ u. value (parity (bits 4 u))) tt
+
+-- what is left of the four: the first three in the shorter words, whose data of three bits move up one place
+short : ℕ → ℕ → Bool
+short n u = eqb (value (parity (bits 4 (u * 2 ^ (4 - dataBits n)))) / 2 ^ (4 - checkBits n)) (value (parityOf n (bits (dataBits n) u)))
+
+pub parity-is : (n : ℕ) → 6 ≤ n → n ≤ 8 → (u : ℕ) → value (parity (bits 4 (u % 2 ^ dataBits n * 2 ^ (4 - dataBits n)))) / 2 ^ (4 - checkBits n) ≡ value (parityOf n (bits (dataBits n) u))
+unfolding short
+parity-is n l m u =
+    eqb→eq _ _ (every-at (2 ^ dataBits n) (short n) (lengths-at (λ n. every (2 ^ dataBits n) (short n)) tt n l m) (u % 2 ^ dataBits n) (mod-lt u (pow-pos (dataBits n))))
+    ∙ ap (λ x. value (parityOf n x)) (bits-mod (dataBits n) u)
