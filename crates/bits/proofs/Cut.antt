@@ -5,7 +5,8 @@ use mathlib.Core.List.{List, [], _∷_, _++_}
 use Prim.Native.Nat.{ℕ, zero, suc, _+_, _≤_, _<_}
 use native.Mathlib.Nat.{not-suc-le-zero, le-of-suc-le-suc, add-zero}
 use native.Mathlib.Omega.{arith}
-use lib.ListN.{length, getD}
+use lib.ListN.{length, getD, take, drop}
+use lib.Seq.{drop-cons}
 use Rattle.bits.specs.Bits.{cut}
 
 -- a cut of n has n entries
@@ -38,3 +39,14 @@ cut-getD d (x ∷ l) = ap (λ (xs : List _). x ∷ xs) (shift (length l) 0 ∙ c
     shift : (n i : ℕ) → cut (λ j. getD (x ∷ l) j d) (suc i) n ≡ cut (λ j. getD l j d) i n
     shift zero i = refl
     shift (suc n) i = ap (λ (xs : List _). getD l i d ∷ xs) (shift n (suc i))
+
+-- a cut that starts a places on is that of the sequence moved by a
+pub cut-shift : {A : Type 0} (g : ℕ → A) (a i n : ℕ) → cut g (a + i) n ≡ cut (λ j. g (a + j)) i n
+cut-shift g a i zero = refl
+cut-shift g a i (suc n) = ap (λ (xs : List _). g (a + i) ∷ xs) (ap (λ (k : ℕ). cut g k n) (omega arith) ∙ cut-shift g a (suc i) n)
+
+-- a part of a list, entry by entry
+pub cut-part : {A : Type 0} (d : A) (l : List A) (a n : ℕ) → a + n ≤ length l → cut (λ j. getD l j d) a n ≡ take n (drop a l)
+cut-part d l a zero h = refl
+cut-part d l a (suc n) h =
+    ap (λ (xs : List _). getD l a d ∷ xs) (cut-part d l (suc a) n (omega arith)) ∙ sym (ap (take (suc n)) (drop-cons l a d (omega arith)))

@@ -1,0 +1,6 @@
+pub mod Entries
+pub mod Places
+pub mod Bytes
+pub mod Frames
+pub mod Default
+pub mod Words

@@ -1,0 +1,99 @@
+// The seven bytes of 54 logical bits in the default order.
+ghost use mathlib.Core.Path.{_≡_};
+ghost use Prim.Native.Nat.{_≤_, _<_};
+ghost use lib.ListN.{getD};
+ghost use Rattle.bits.specs.Bits.{bitNum, bits, cut};
+ghost use Rattle.order.specs.Order.{defaultOrder, byteOf, frameOf};
+ghost use Rattle.order.specs.Word.{wordBit};
+
+// The logical bit that goes to place t; logical bit 0 is the most significant of the 54.
+fn placed_bit(word: u64, t: usize) -> u64
+    requires { ⌜ t < 54 ⌝ }
+    ensures { λ r. ⌜ (r ≡ bitNum (wordBit 54 word (getD defaultOrder t 0))) × (r ≤ 1) ⌝ }
+{
+    (word >> (53 - DEFAULT_ORDER[t])) % 2
+}
+
+// The seven bytes of a number's low 56 bits, most significant first.
+fn seven_bytes(word: u64) -> [u8; 7]
+    ensures { λ r. ⌜ r ≡ cut (byteOf (wordBit 56 word)) 0 7 ⌝ }
+{
+    [
+        (word / 0x1000000000000 % 256) as u8,
+        (word / 0x10000000000 % 256) as u8,
+        (word / 0x100000000 % 256) as u8,
+        (word / 0x1000000 % 256) as u8,
+        (word / 0x10000 % 256) as u8,
+        (word / 0x100 % 256) as u8,
+        (word % 256) as u8,
+    ]
+}
+
+// The frame of the logical bits in the low 54 bits of a number.
+pub fn place_bits(word: u64) -> [u8; 7]
+    ensures { λ r. ⌜ r ≡ frameOf defaultOrder (wordBit 54 word) ⌝ }
+{
+    let mut placed: u64 = 0;
+    for t in 0..54 {
+        placed = placed * 2 + placed_bit(word, t);
+    }
+    seven_bytes(placed * 4)
+}
+
+// Entry t names the logical bit at place t.
+const DEFAULT_ORDER: [u8; 54] = [
+    0,
+    31,
+    8,
+    39,
+    16,
+    47,
+    24,
+    1,
+    32,
+    9,
+    40,
+    17,
+    48,
+    25,
+    2,
+    33,
+    10,
+    41,
+    18,
+    49,
+    26,
+    3,
+    34,
+    11,
+    42,
+    19,
+    50,
+    27,
+    4,
+    35,
+    12,
+    43,
+    20,
+    51,
+    28,
+    5,
+    36,
+    13,
+    44,
+    21,
+    52,
+    29,
+    6,
+    37,
+    14,
+    45,
+    22,
+    53,
+    30,
+    7,
+    38,
+    15,
+    46,
+    23,
+];
