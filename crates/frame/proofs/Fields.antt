@@ -1,0 +1,42 @@
+-- The indices that share words: L1 in A and B, G2 in C and D, G1 in D. Their bits are numbers again.
+-- Assumes nothing.
+use mathlib.Core.Path.{_≡_, refl, sym, ap, _∙_}
+use mathlib.Core.Bool.{Bool}
+use mathlib.Core.List.{List, [], _∷_, _++_}
+use Prim.Native.Nat.{ℕ, _+_, _*_, _/_, _%_, _^_, _<_}
+use native.Mathlib.Omega.{arith}
+use lib.Pow.{high, low}
+use Rattle.bits.specs.Bits.{bitNum, value, bit, bits}
+use Rattle.bits.proofs.Value.{value-append, value-bits, value-lt-at, take-bits}
+use Rattle.frame.specs.Layout.{dataA, dataB, dataC, dataD}
+use Rattle.frame.specs.declared.Indices.{Indices}
+
+module _ (x : Indices) where
+  -- A has the bits of a quotient, and so has C
+  pub dataA-is : dataA x ≡ bits 4 (x .l1 / 8)
+  dataA-is = take-bits 4 3 (x .l1)
+
+  pub dataC-is : dataC x ≡ bits 4 (x .g2 / 2)
+  dataC-is = take-bits 4 1 (x .g2)
+
+  -- A and B together are L1
+  pub l1-back : x .l1 < 128 → value (dataA x) * 8 + value (dataB x) ≡ x .l1
+  l1-back h = sym (value-append (dataA x) (dataB x)) ∙ value-bits 7 (x .l1) h
+
+  -- D is G2's lowest bit above G1
+  pub dataD-value : value (dataD x) ≡ bitNum (bit 0 (x .g2)) * 8 + value (bits 3 (x .g1))
+  dataD-value = refl
+
+  pub dataD-high : value (dataD x) / 8 ≡ bitNum (bit 0 (x .g2))
+  dataD-high = high (bitNum (bit 0 (x .g2))) 3 (value-lt-at 3 (bits 3 (x .g1)) refl)
+
+  -- C with that bit is G2
+  pub g2-back : x .g2 < 32 → value (dataC x) * 2 + value (dataD x) / 8 ≡ x .g2
+  g2-back h =
+      ap (λ (k : ℕ). value (dataC x) * 2 + k) (dataD-high ∙ omega arith)
+      ∙ sym (value-append (dataC x) (bit 0 (x .g2) ∷ []))
+      ∙ value-bits 5 (x .g2) h
+
+  -- and the rest of D is G1
+  pub g1-back : x .g1 < 8 → value (dataD x) % 8 ≡ x .g1
+  g1-back h = low (bitNum (bit 0 (x .g2))) 3 (value-lt-at 3 (bits 3 (x .g1)) refl) ∙ value-bits 3 (x .g1) h

@@ -1,0 +1,57 @@
+-- The range tests, index by index.
+-- Assumes nothing.
+use mathlib.Core.Bool.{Bool, not, _&&_}
+use Prim.Native.Nat.{ℕ, _<_}
+use lib.Dec.{T, ltb, eqb, ltb→lt}
+use Rattle.bits.proofs.Every.{and-left, and-right}
+use Rattle.frame.specs.Sets.{indicesFit, voicingFits, inRange, sendable}
+use Rattle.frame.specs.declared.Indices.{Indices}
+use Rattle.frame.specs.declared.Voicing.{Voicing}
+use Rattle.frame.specs.declared.ParameterSet.{ParameterSet}
+use Rattle.frame.specs.declared.ParameterSet.the-variants.{Unvoiced, Voiced}
+
+pub record IndexRanges (x : Indices) : Type 0 where
+  pub l1 : x .l1 < 128
+  pub l2 : x .l2 < 64
+  pub l3 : x .l3 < 64
+  pub l4 : x .l4 < 64
+  pub g2 : x .g2 < 32
+  pub g1 : x .g1 < 8
+
+pub record VoicingRanges (v : Voicing) : Type 0 where
+  pub pitch : v .pitch < 99
+  pub bandpass : v .bandpass < 16
+  pub fourier : v .fourier < 256
+  pub aperiodic : v .aperiodic < 2
+
+-- the first of two tests, both passed, and the rest
+pub index-ranges : (x : Indices) → T (indicesFit x) → IndexRanges x
+index-ranges x t =
+    let t4 = and-left (ltb (x .l1) 128 && ltb (x .l2) 64 && ltb (x .l3) 64 && ltb (x .l4) 64 && ltb (x .g2) 32) (ltb (x .g1) 8) t in
+    let t3 = and-left (ltb (x .l1) 128 && ltb (x .l2) 64 && ltb (x .l3) 64 && ltb (x .l4) 64) (ltb (x .g2) 32) t4 in
+    let t2 = and-left (ltb (x .l1) 128 && ltb (x .l2) 64 && ltb (x .l3) 64) (ltb (x .l4) 64) t3 in
+    let t1 = and-left (ltb (x .l1) 128 && ltb (x .l2) 64) (ltb (x .l3) 64) t2 in
+    record {
+      l1 = ltb→lt (x .l1) 128 (and-left (ltb (x .l1) 128) (ltb (x .l2) 64) t1);
+      l2 = ltb→lt (x .l2) 64 (and-right (ltb (x .l1) 128) (ltb (x .l2) 64) t1);
+      l3 = ltb→lt (x .l3) 64 (and-right (ltb (x .l1) 128 && ltb (x .l2) 64) (ltb (x .l3) 64) t2);
+      l4 = ltb→lt (x .l4) 64 (and-right (ltb (x .l1) 128 && ltb (x .l2) 64 && ltb (x .l3) 64) (ltb (x .l4) 64) t3);
+      g2 = ltb→lt (x .g2) 32 (and-right (ltb (x .l1) 128 && ltb (x .l2) 64 && ltb (x .l3) 64 && ltb (x .l4) 64) (ltb (x .g2) 32) t4);
+      g1 = ltb→lt (x .g1) 8 (and-right (ltb (x .l1) 128 && ltb (x .l2) 64 && ltb (x .l3) 64 && ltb (x .l4) 64 && ltb (x .g2) 32) (ltb (x .g1) 8) t)
+    }
+
+pub voicing-ranges : (v : Voicing) → T (voicingFits v) → VoicingRanges v
+voicing-ranges v t =
+    let t2 = and-left (ltb (v .pitch) 99 && ltb (v .bandpass) 16 && ltb (v .fourier) 256) (ltb (v .aperiodic) 2) t in
+    let t1 = and-left (ltb (v .pitch) 99 && ltb (v .bandpass) 16) (ltb (v .fourier) 256) t2 in
+    record {
+      pitch = ltb→lt (v .pitch) 99 (and-left (ltb (v .pitch) 99) (ltb (v .bandpass) 16) t1);
+      bandpass = ltb→lt (v .bandpass) 16 (and-right (ltb (v .pitch) 99) (ltb (v .bandpass) 16) t1);
+      fourier = ltb→lt (v .fourier) 256 (and-right (ltb (v .pitch) 99 && ltb (v .bandpass) 16) (ltb (v .fourier) 256) t2);
+      aperiodic = ltb→lt (v .aperiodic) 2 (and-right (ltb (v .pitch) 99 && ltb (v .bandpass) 16 && ltb (v .fourier) 256) (ltb (v .aperiodic) 2) t)
+    }
+
+-- what a sender takes is in range
+pub sendable-fits : (set : ParameterSet) → T (sendable set) → T (inRange set)
+sendable-fits (Unvoiced x) t = t
+sendable-fits (Voiced x v) t = and-left (indicesFit x && voicingFits v) (not (eqb (v .bandpass) 1)) t

@@ -1,0 +1,26 @@
+-- Document 01, "Lists of calls": flips of a frame's bits.
+use Prim.Native.Nat.{ℕ, _+_, _≤_, _<_}
+use mathlib.Core.Path.{_≡_}
+use mathlib.Core.Bool.{Bool, true}
+use Rattle.bits.specs.Bits.{_⊻_, ones, cut}
+
+-- logical bits after flips
+abbrev pub damaged : (ℕ → Bool) → (ℕ → Bool) → ℕ → Bool
+damaged g fl j = g j ⊻ fl j
+
+-- flips that repair undoes, document 01's "light": at most one in the pitch code and in each word
+pub record Correctable (fl : ℕ → Bool) : Type 0 where
+  pub a : ones (cut fl 0 8) ≤ 1
+  pub b : ones (cut fl 8 6) ≤ 1
+  pub c : ones (cut fl 14 7) ≤ 1
+  pub d : ones (cut fl 21 7) ≤ 1
+  pub pitch : ones (cut fl 28 7) ≤ 1
+
+-- how many flips are in the four words and the pitch code
+abbrev pub protectedFlips : (ℕ → Bool) → ℕ
+protectedFlips fl = ones (cut fl 0 35)
+
+-- flips of places that lie within n neighbouring ones, from some place on
+pub record Within (n : ℕ) (fl : ℕ → Bool) : Type 0 where
+  pub start : ℕ
+  pub inside : (t : ℕ) → t < 54 → fl t ≡ true → (start ≤ t) × (t < start + n)

@@ -1,0 +1,32 @@
+-- Document 01, "Order of the bits" and "Refusals by place": what a packing call answers and leaves.
+use Prim.Native.Nat.{ℕ, zero, suc}
+use mathlib.Core.Bool.{Bool, not, cond}
+use mathlib.Core.List.{List, _++_}
+use lib.Dec.{ltb}
+use lib.ListN.{length, drop}
+use Rattle.order.specs.Order.{defaultOrder}
+use Rattle.frame.specs.Sets.{sendable}
+use Rattle.frame.specs.Layout.{frame}
+use Rattle.frame.specs.declared.ParameterSet.{ParameterSet}
+use Rattle.frame.specs.declared.PackAnswer.{PackAnswer}
+use Rattle.frame.specs.declared.PackAnswer.the-variants.{Packed, Refused}
+
+-- the refusal, 0 is none: 1 for an output of fewer than seven bytes, then 5 for a set that a sender does not take
+abbrev pub packRefusal : ParameterSet → ℕ → ℕ
+packRefusal set room = cond (ltb room 7) 1 (cond (sendable set) 0 5)
+
+-- the answer: the sync bit changes after each frame packed; a refusal is its number
+abbrev pub packedUnless : ℕ → Bool → PackAnswer
+packedUnless zero sync = Packed (not sync)
+packedUnless (suc n) sync = Refused (suc n)
+
+unfoldable pub packAnswer : ParameterSet → Bool → ℕ → PackAnswer
+packAnswer set sync room = packedUnless (packRefusal set room) sync
+
+-- the output afterwards: the frame in front and all past the seventh byte kept; after a refusal all kept
+abbrev pub writtenUnless : ℕ → List ℕ → ParameterSet → Bool → List ℕ → List ℕ
+writtenUnless zero ord set sync out = frame ord set sync ++ drop 7 out
+writtenUnless (suc n) ord set sync out = out
+
+unfoldable pub packWrites : ParameterSet → Bool → List ℕ → List ℕ
+packWrites set sync out = writtenUnless (packRefusal set (length out)) defaultOrder set sync out

@@ -1,0 +1,7 @@
+-- The laws of the gain levels, in the order of the definitions.
+pub mod SecondLevel
+pub mod FirstLevel
+pub mod Nearest
+pub mod Thresholds
+pub mod Raise
+pub mod Chosen

@@ -1,0 +1,67 @@
+-- `gain::levels::first_gain_level` meets its contract: the steps above the smaller level stay far below the end of the type. Assumes nothing.
+use Prim.Native.Nat.{_-_, _*_, _≤_}
+use native.Mathlib.Nat.{mul-le-mul}
+use native.Mathlib.Omega.{arith}
+use borrow.Author.Needs.{needs}
+use Rattle.gain.specs.Levels.{firstLevel}
+use Rattle.gain.proofs.FirstLevel.{first-of}
+use Rattle.gain.proofs.levels.first_gain_level.Statement.{statement}
+use Rattle.gain.proofs.levels.first_gain_level.Tie as tie
+
+-- the steps of any code above the smaller level
+steps-fit : (c : tie.After-first-step) → (c .before .before .before .before .before .args .code - 1) * c .first-step .result ≤ 255 * 20000
+steps-fit c = mul-le-mul {n₂ = 255} {m₂ = 20000} (omega arith) (omega arith)
+
+mean-level-requires : tie.Need-mean-level-requires
+mean-level-requires c κs = search needs
+
+returns : tie.Need-returns
+unfolding firstLevel
+returns c = simp (c .before .if1 .taken, c .mean-level .ensures)
+
+gain-level-requires : tie.Need-gain-level-requires
+gain-level-requires c κs = search needs
+
+gain-level-requires-2 : tie.Need-gain-level-requires-2
+gain-level-requires-2 c κs = search needs
+
+smaller-requires : tie.Need-smaller-requires
+smaller-requires c κs = search needs
+
+sub-result : tie.Need-sub-result
+sub-result c = search needs
+
+sub-result-2 : tie.Need-sub-result-2
+sub-result-2 c = search needs
+
+first-step-requires : tie.Need-first-step-requires
+first-step-requires c κs = search needs
+
+mul-result : tie.Need-mul-result
+mul-result c = omega (arith, steps-fit c)
+
+add-result : tie.Need-add-result
+add-result c = omega (arith, steps-fit c)
+
+returns-2 : tie.Need-returns-2
+returns-2 c =
+    let a = c .before .before .before .before .before .args in
+    let l = c .before .before .before in
+    let f = first-of (a .g2) (a .q) (a .code) (l .before .if1 .left) in
+    simp (f, c .before .smaller .ensures, c .before .before .gain-level2 .ensures, l .gain-level .ensures, c .first-step .ensures)
+
+pub first-gain-level-spec : {M : Type 1} → statement M
+first-gain-level-spec =
+    tie.close
+    (tie.spec
+    mean-level-requires
+    returns
+    gain-level-requires
+    gain-level-requires-2
+    smaller-requires
+    sub-result
+    sub-result-2
+    first-step-requires
+    mul-result
+    add-result
+    returns-2)

@@ -1,0 +1,56 @@
+-- Choosing codes (5.3.3, 5.3.7) from a first and a second level, and q, the second code before.
+use Prim.Native.Nat.{ℕ, zero, suc, _+_}
+use mathlib.Core.Bool.{Bool, _&&_, cond}
+use lib.Dec.{leb, ltb}
+use lib.IntN.{ℤ, pos, negℤ, natAbs, _-ℤ_}
+use lib.Signed.{leZ}
+use Rattle.gain.specs.Levels.{level, apart, mean, firstLevel}
+use Rattle.gain.specs.declared.CodesAnswer.{CodesAnswer}
+use Rattle.gain.specs.declared.CodesAnswer.the-variants.{Codes, Refused}
+
+-- how far x is from the level l
+abbrev pub distance : ℤ → ℕ → ℕ
+distance x l = natAbs (x -ℤ pos l)
+
+-- of the indices i and j the one whose level is nearer to x, on a threshold i
+abbrev pub nearer : (ℕ → ℕ) → ℤ → ℕ → ℕ → ℕ
+nearer lv x i j = cond (ltb (distance x (lv j)) (distance x (lv i))) j i
+
+-- the index of the nearest of the levels 0 to n, on a threshold the lower
+unfoldable pub nearest : (ℕ → ℕ) → ℤ → ℕ → ℕ
+nearest lv x zero = 0
+nearest lv x (suc n) = nearer lv x (nearest lv x n) (suc n)
+
+-- G2 is the nearest level's index
+abbrev pub chosenG2 : ℤ → ℕ
+chosenG2 second = nearest level second 31
+
+-- d is at most 2 and the first level is at most 558 from the mean of the quantised levels
+abbrev pub steady : ℤ → ℕ → ℕ → Bool
+steady first g2 q = leb (apart g2 q) 2 && leb (distance first (mean g2 q)) 558
+
+-- the seven levels, of codes 1 to 7
+abbrev pub sevenLevels : ℕ → ℕ → ℕ → ℕ
+sevenLevels g2 q i = firstLevel g2 (suc i) q
+
+-- G1 is 0 exactly if steady; otherwise 1 plus the index of the nearest of the seven
+unfoldable pub chosenG1 : ℤ → ℕ → ℕ → ℕ
+chosenG1 first g2 q = cond (steady first g2 q) 0 (1 + nearest (sevenLevels g2 q) first 6)
+
+-- each level is in −18600..37200
+abbrev pub levelInRange : ℤ → Bool
+levelInRange x = leZ (negℤ (pos 18600)) x && leZ x (pos 37200)
+
+-- the refusal of a choice: 5 where a level or q is out of range, 0 for none
+abbrev pub chooseRefusal : ℤ → ℤ → ℕ → ℕ
+chooseRefusal first second q = cond (levelInRange first && levelInRange second && leb q 31) 0 5
+
+-- the codes where the refusal is 0, otherwise the refusal
+abbrev pub codesUnless : ℕ → ℕ → ℕ → CodesAnswer
+codesUnless zero g2 g1 = Codes g2 g1
+codesUnless (suc n) g2 g1 = Refused (suc n)
+
+-- the answer to a call for both codes
+unfoldable pub chooseCall : ℤ → ℤ → ℕ → CodesAnswer
+chooseCall first second q =
+    codesUnless (chooseRefusal first second q) (chosenG2 second) (chosenG1 first (chosenG2 second) q)

@@ -1,0 +1,44 @@
+-- Gain levels (5.3.3): the level of a second code G2, and the first level of a frame, after a frame whose second code is q.
+use Prim.Native.Nat.{ℕ, zero, suc, _+_, _-_, _*_, _/_, min}
+use mathlib.Core.Bool.{_&&_, cond}
+use lib.Dec.{leb}
+use Rattle.gain.specs.declared.LevelAnswer.{LevelAnswer}
+use Rattle.gain.specs.declared.LevelAnswer.the-variants.{Level, Refused}
+
+-- level of G2 = 1860 + 402 × G2, in units of 1/186 dB, document 01's grain
+abbrev pub level : ℕ → ℕ
+level g2 = 1860 + 402 * g2
+
+-- d = |G2 − q|
+abbrev pub apart : ℕ → ℕ → ℕ
+apart g2 q = (g2 - q) + (q - g2)
+
+-- the mean of both levels
+abbrev pub mean : ℕ → ℕ → ℕ
+mean g2 q = (level g2 + level q) / 2
+
+-- code 0 gives the mean of both levels; code c from 1 to 7 gives the smaller level − 1116 + (c − 1) × (67 × d + 372)
+unfoldable pub firstLevel : ℕ → ℕ → ℕ → ℕ
+firstLevel g2 zero q = mean g2 q
+firstLevel g2 (suc c) q = min (level g2) (level q) - 1116 + c * (67 * apart g2 q + 372)
+
+-- the refusal of a level: 5 where G2 is out of range, 0 for none
+abbrev pub levelRefusal : ℕ → ℕ
+levelRefusal g2 = cond (leb g2 31) 0 5
+
+-- the refusal of a first level: 5 where G2, the code or q is out of range
+abbrev pub firstLevelRefusal : ℕ → ℕ → ℕ → ℕ
+firstLevelRefusal g2 code q = cond (leb g2 31 && leb code 7 && leb q 31) 0 5
+
+-- the level where the refusal is 0, otherwise the refusal
+abbrev pub levelUnless : ℕ → ℕ → LevelAnswer
+levelUnless zero l = Level l
+levelUnless (suc n) l = Refused (suc n)
+
+-- the answer to a call for the level of G2
+unfoldable pub levelCall : ℕ → LevelAnswer
+levelCall g2 = levelUnless (levelRefusal g2) (level g2)
+
+-- the answer to a call for the first level
+unfoldable pub firstLevelCall : ℕ → ℕ → ℕ → LevelAnswer
+firstLevelCall g2 code q = levelUnless (firstLevelRefusal g2 code q) (firstLevel g2 code q)

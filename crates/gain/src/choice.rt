@@ -1,0 +1,75 @@
+// From two levels to their gain codes (5.3.3).
+use crate::CodesAnswer;
+use crate::OUT_OF_RANGE;
+use crate::levels::first_gain_level;
+use crate::levels::first_step;
+use crate::levels::gap;
+use crate::levels::mean_level;
+use crate::quantiser::quantise;
+ghost use mathlib.Core.Path.{_≡_};
+ghost use mathlib.Core.Bool.{true};
+ghost use Prim.Native.Nat.{_≤_};
+ghost use lib.IntN.{pos, _+ℤ_};
+ghost use Rattle.gain.specs.Choice.{levelInRange, chosenG2, steady, chosenG1, chooseCall};
+
+// Added to a level in range and to the levels that it is compared with, it leaves none below 0.
+const RAISE: u32 = 18600;
+
+// The codes of a frame's first and second level, after the second code `q`.
+pub fn choose(first: i32, second: i32, q: u8) -> CodesAnswer
+    ensures { λ r. ⌜ r ≡ chooseCall first second q ⌝ }
+{
+    if level_in_range(first) & level_in_range(second) & (q <= 31) {
+        let g2 = second_code(second);
+        CodesAnswer::Codes {
+            g2,
+            g1: first_code(first, g2, q),
+        }
+    } else {
+        CodesAnswer::Refused(OUT_OF_RANGE)
+    }
+}
+
+// Whether a level is one that codes are chosen for.
+fn level_in_range(x: i32) -> bool
+    ensures { λ r. ⌜ r ≡ levelInRange x ⌝ }
+{
+    (-18600 <= x) & (x <= 37200)
+}
+
+// A level in range as an unsigned number, raised by `RAISE`.
+fn raised(x: i32) -> u32
+    requires { ⌜ levelInRange x ≡ true ⌝ }
+    ensures { λ r. ⌜ (pos r ≡ x +ℤ pos 18600) × (r ≤ 55800) ⌝ }
+{
+    (x + 18600) as u32
+}
+
+// The index of the nearest of the 32 levels.
+fn second_code(second: i32) -> u8
+    requires { ⌜ levelInRange second ≡ true ⌝ }
+    ensures { λ r. ⌜ (r ≡ chosenG2 second) × (r ≤ 31) ⌝ }
+{
+    quantise(RAISE + 1860, 402, 31, raised(second))
+}
+
+// 0 for a steady frame, otherwise 1 plus the index of the nearest of the seven levels.
+fn first_code(first: i32, g2: u8, q: u8) -> u8
+    requires { ⌜ (levelInRange first ≡ true) × (g2 ≤ 31) × (q ≤ 31) ⌝ }
+    ensures { λ r. ⌜ r ≡ chosenG1 first g2 q ⌝ }
+{
+    if is_steady(first, g2, q) {
+        return 0;
+    }
+    let lowest = RAISE + first_gain_level(g2, 1, q);
+    1 + quantise(lowest, first_step(g2, q), 6, raised(first))
+}
+
+// Whether the second levels are close, and the first level is close to their mean.
+fn is_steady(first: i32, g2: u8, q: u8) -> bool
+    requires { ⌜ levelInRange first ≡ true ⌝ }
+    ensures { λ r. ⌜ r ≡ steady first g2 q ⌝ }
+{
+    let mean = RAISE + mean_level(g2, q);
+    (gap(g2 as u32, q as u32) <= 2) & (gap(raised(first), mean) <= 558)
+}
