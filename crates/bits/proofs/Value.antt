@@ -1,6 +1,6 @@
 -- Bits and the numbers they stand for, over any length.
 -- Assumes nothing.
-use mathlib.Core.Path.{_≡_, refl, sym, ap, ap₂, _∙_, subst}
+use mathlib.Core.Path.{_≡_, refl, sym, ap, ap₂, _∙_, subst, subst⁻¹}
 use mathlib.Core.Bool.{Bool, true, false}
 use mathlib.Core.List.{List, [], _∷_, _++_}
 use Prim.Native.Nat.{ℕ, zero, suc, _+_, _*_, _-_, _/_, _%_, _^_, _≤_, _<_}
@@ -23,6 +23,10 @@ value-lt (false ∷ l) = rw (pow-suc 2 (length l)) (omega (arith, value-lt l))
 pub value-lt-at : (n : ℕ) (l : List Bool) → length l ≡ n → value l < 2 ^ n
 value-lt-at n l e = subst (λ (m : ℕ). value l < 2 ^ m) e (value-lt l)
 
+-- so is a number that equals it
+pub value-bound : (n : ℕ) (l : List Bool) (x : ℕ) → length l ≡ n → x ≡ value l → x < 2 ^ n
+value-bound n l x e p = subst⁻¹ (λ (y : ℕ). y < 2 ^ n) p (value-lt-at n l e)
+
 -- two lists joined: the first moves up by the length of the second
 pub value-append : (l m : List Bool) → value (l ++ m) ≡ value l * 2 ^ length m + value m
 value-append [] m = sym (ap (λ (x : ℕ). x + value m) (zero-mul (2 ^ length m)) ∙ zero-add (value m))
@@ -31,6 +35,10 @@ value-append (b ∷ l) m =
     ∙ ap (λ (x : ℕ). x + (value l * 2 ^ length m + value m)) (sym (mul-assoc (bitNum b) (2 ^ length l) (2 ^ length m)))
     ∙ sym (add-assoc _ _ (value m))
     ∙ ap (λ (x : ℕ). x + value m) (sym (add-mul (bitNum b * 2 ^ length l) (value l) (2 ^ length m)))
+
+-- the same where the values and the second length are known
+pub value-join : (l m : List Bool) (n x y : ℕ) → length m ≡ n → value l ≡ x → value m ≡ y → value (l ++ m) ≡ x * 2 ^ n + y
+value-join l m n x y e p q = value-append l m ∙ ap₂ (λ (a b : ℕ). a * 2 ^ length m + b) p q ∙ ap (λ (k : ℕ). x * 2 ^ k + y) e
 
 -- one bit more at the end
 pub value-snoc : (l : List Bool) (b : Bool) → value (l ++ (b ∷ [])) ≡ value l * 2 + bitNum b

@@ -5,3 +5,4 @@ pub mod Returned
 pub mod Extent
 pub mod Ordered
 pub mod Neighbours
+pub mod Numbers

@@ -16,7 +16,7 @@ use Rattle.hamming.specs.Word.{decode}
 use Rattle.hamming.specs.declared.Decoded.{Decoded}
 use Rattle.hamming.specs.declared.Decoded.the-variants as word
 use Rattle.hamming.proofs.Repairs.{repair, double-erases}
-use Rattle.frame.specs.Layout.{dataA, dataB, dataC, dataD, logical, logicalOf}
+use Rattle.frame.specs.Layout.{dataA, dataB, dataC, dataD, words, others, unvoicedWords, voicedWords, logical, logicalOf}
 use Rattle.frame.specs.Reads.{pitchBits, indicesOf, pitchRepaired, fromWords, byClass, read}
 use Rattle.frame.specs.Damage.{damaged, Correctable, protectedFlips}
 use Rattle.frame.specs.declared.Indices.{Indices}
@@ -44,28 +44,28 @@ module _ (x : Indices) (sync : Bool) (fl : ℕ → Bool) where
   got = damaged (logicalOf (Unvoiced x) sync) fl
 
   class-stays : ones (cut fl 28 7) ≤ 1 → classOf (pitchBits got) ≡ class.Unvoiced
-  unfolding logical
+  unfolding words others unvoicedWords logical
   class-stays h = unvoiced-stays (cut fl 28 7) refl h
 
   module _ (k : Correctable fl) where
     word-a : decode 8 (cut got 0 8) ≡ word.Read (value (dataA x)) (ones (cut fl 0 8))
-    unfolding logical
+    unfolding words others unvoicedWords logical
     word-a = repair 8 (lit≤ tt) (lit≤ tt) (dataA x) (cut fl 0 8) refl refl (k .a)
 
     word-b : decode 6 (cut got 8 6) ≡ word.Read (value (dataB x)) (ones (cut fl 8 6))
-    unfolding logical
+    unfolding words others unvoicedWords logical
     word-b = repair 6 (lit≤ tt) (lit≤ tt) (dataB x) (cut fl 8 6) refl refl (k .b)
 
     word-c : decode 7 (cut got 14 7) ≡ word.Read (value (dataC x)) (ones (cut fl 14 7))
-    unfolding logical
+    unfolding words others unvoicedWords logical
     word-c = repair 7 (lit≤ tt) (lit≤ tt) (dataC x) (cut fl 14 7) refl refl (k .c)
 
     word-d : decode 7 (cut got 21 7) ≡ word.Read (value (dataD x)) (ones (cut fl 21 7))
-    unfolding logical
+    unfolding words others unvoicedWords logical
     word-d = repair 7 (lit≤ tt) (lit≤ tt) (dataD x) (cut fl 21 7) refl refl (k .d)
 
     pitch-count : pitchRepaired got ≡ ones (cut fl 28 7)
-    unfolding logical
+    unfolding words others unvoicedWords logical
     pitch-count = ap (λ (n : ℕ). cond (eqb n 1) 1 0) (unvoiced-ones (cut fl 28 7) refl (k .pitch)) ∙ single (ones (cut fl 28 7)) (k .pitch)
 
     flips-are : pitchRepaired got + ones (cut fl 0 8) + ones (cut fl 8 6) + ones (cut fl 14 7) + ones (cut fl 21 7) ≡ protectedFlips fl
@@ -86,7 +86,7 @@ module _ (x : Indices) (sync : Bool) (fl : ℕ → Bool) where
 
   -- exactly two flips in word A under an unvoiced pitch code: erased
   pub double-read : ones (cut fl 0 8) ≡ 2 → ones (cut fl 28 7) ≤ 1 → read got ≡ Erased
-  unfolding logical read
+  unfolding words others unvoicedWords logical read
   double-read ha hp =
       ap (byClass got) (class-stays hp)
       ∙ ap (λ (r : Decoded). fromWords got r (decode 6 (cut got 8 6)) (decode 7 (cut got 14 7)) (decode 7 (cut got 21 7))) (double-erases (dataA x) (cut fl 0 8) refl refl ha)
@@ -104,7 +104,7 @@ by-class g (class.Voiced i) t = tt
 
 -- a voiced frame with at most one flip in its pitch code is read voiced or erased
 pub voiced-read : (x : Indices) (v : Voicing) (sync : Bool) (fl : ℕ → Bool) → v .pitch < 99 → ones (cut fl 28 7) ≤ 1 → T (voicedOrErased (read (damaged (logicalOf (Voiced x v) sync) fl)))
-unfolding logical read
+unfolding words others voicedWords logical read
 voiced-read x v sync fl h f =
     let g : ℕ → Bool = damaged (logicalOf (Voiced x v) sync) fl in
     by-class g (classOf (pitchBits g)) (voiced-keeps (v .pitch) h (cut fl 28 7) refl f)

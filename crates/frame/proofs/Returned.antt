@@ -7,7 +7,7 @@ use Rattle.bits.proofs.Every.{and-left, and-right}
 use Rattle.bits.proofs.Value.{value-bits}
 use Rattle.pitch.proofs.Codes.{index-back}
 use Rattle.frame.specs.Sets.{indicesFit, voicingFits, inRange}
-use Rattle.frame.specs.Layout.{logical, logicalOf}
+use Rattle.frame.specs.Layout.{words, others, unvoicedWords, voicedWords, logical, logicalOf}
 use Rattle.frame.specs.Reads.{byClass, read}
 use Rattle.frame.specs.Damage.{Correctable}
 use Rattle.frame.specs.declared.Indices.{Indices}
@@ -25,13 +25,13 @@ clear = record { a = lit≤ tt; b = lit≤ tt; c = lit≤ tt; d = lit≤ tt; pit
 
 module _ (x : Indices) (sync : Bool) (r : IndexRanges x) where
   unvoiced-back : read (logicalOf (Unvoiced x) sync) ≡ Accepted (Unvoiced x) 0
-  unfolding logical
+  unfolding words others unvoicedWords logical
   unvoiced-back =
       correctable-read x sync (λ j. false) clear r
       ∙ (λ i. Accepted (Unvoiced (record { l1 = x .l1; l2 = value-bits 6 (x .l2) (r .l2) i; l3 = value-bits 6 (x .l3) (r .l3) i; l4 = value-bits 6 (x .l4) (r .l4) i; g2 = x .g2; g1 = x .g1 })) 0)
 
   voiced-back : (v : Voicing) → VoicingRanges v → read (logicalOf (Voiced x v) sync) ≡ Accepted (Voiced x v) 0
-  unfolding logical read
+  unfolding words others voicedWords logical read
   voiced-back v s =
       ap (byClass (logicalOf (Voiced x v) sync)) (index-back (v .pitch) (s .pitch))
       ∙ (λ i. Accepted (Voiced (record {

@@ -29,23 +29,30 @@ abbrev pub dataD : Indices → List Bool
 dataD x = bit 0 (x .g2) ∷ bit 2 (x .g1) ∷ bit 1 (x .g1) ∷ bit 0 (x .g1) ∷ []
 
 -- logical bits 0 to 27: each word's data, then what stands in its parity places
-abbrev pub words : Indices → List Bool → List Bool → List Bool → List Bool → List Bool
+unfoldable pub words : Indices → List Bool → List Bool → List Bool → List Bool → List Bool
 words x pa pb pc pd = (dataA x ++ pa) ++ ((dataB x ++ pb) ++ ((dataC x ++ pc) ++ (dataD x ++ pd)))
 
 -- logical bits 28 to 53: the pitch code, L2, L3 and L4, most significant first, and the sync bit
-abbrev pub others : Indices → List Bool → Bool → List Bool
+unfoldable pub others : Indices → List Bool → Bool → List Bool
 others x p sync = p ++ (bits 6 (x .l2) ++ (bits 6 (x .l3) ++ (bits 6 (x .l4) ++ sync ∷ [])))
 
--- the logical bits of a set: an unvoiced one has parity in the parity places, a voiced one its bandpass bits, Fourier index and aperiodic flag
-unfoldable pub logical : ParameterSet → Bool → List Bool
-logical (Unvoiced x) sync = words x (parityOf 8 (dataA x)) (parityOf 6 (dataB x)) (parityOf 7 (dataC x)) (parityOf 7 (dataD x)) ++ others x (bits 7 unvoicedCode) sync
-logical (Voiced x v) sync =
+-- in an unvoiced frame the parity places have the parity of the data
+unfoldable pub unvoicedWords : Indices → List Bool
+unvoicedWords x = words x (parityOf 8 (dataA x)) (parityOf 6 (dataB x)) (parityOf 7 (dataC x)) (parityOf 7 (dataD x))
+
+-- in a voiced one they have the bandpass bits (A), the Fourier index from the top (B, C, D), and the aperiodic flag (D)
+unfoldable pub voicedWords : Indices → Voicing → List Bool
+voicedWords x v =
     words x
     (bit 3 (v .bandpass) ∷ bit 2 (v .bandpass) ∷ bit 1 (v .bandpass) ∷ bit 0 (v .bandpass) ∷ [])
     (bit 7 (v .fourier) ∷ bit 6 (v .fourier) ∷ bit 5 (v .fourier) ∷ [])
     (bit 4 (v .fourier) ∷ bit 3 (v .fourier) ∷ bit 2 (v .fourier) ∷ [])
     (bit 1 (v .fourier) ∷ bit 0 (v .fourier) ∷ bit 0 (v .aperiodic) ∷ [])
-    ++ others x (bits 7 (codeOf (v .pitch))) sync
+
+-- the logical bits of a set; an unvoiced one has the unvoiced pitch code, a voiced one that of its index
+unfoldable pub logical : ParameterSet → Bool → List Bool
+logical (Unvoiced x) sync = unvoicedWords x ++ others x (bits 7 unvoicedCode) sync
+logical (Voiced x v) sync = voicedWords x v ++ others x (bits 7 (codeOf (v .pitch))) sync
 
 -- logical bit j
 abbrev pub logicalOf : ParameterSet → Bool → ℕ → Bool

@@ -1,29 +1,26 @@
 // Packing: a parameter set and a sync bit into the seven bytes of a frame.
-use crate::{Indices, PackAnswer, ParameterSet, Voicing};
-use hamming::WordLength;
+use crate::range::is_sendable;
+use crate::word::logical_word;
+use crate::{PackAnswer, ParameterSet};
+use order::place::place_bits;
 
 ghost use mathlib.Core.Path.{_≡_};
-ghost use mathlib.Core.Bool.{true};
-ghost use mathlib.Core.List.{_++_};
-ghost use Prim.Native.Nat.{_≤_, _<_, _^_};
-ghost use lib.ListN.{length, drop};
-ghost use Rattle.bits.specs.Bits.{bitNum, value, bits};
-ghost use Rattle.order.specs.Order.{defaultOrder};
-ghost use Rattle.frame.specs.Sets.{indicesFit, voicingFits, sendable};
-ghost use Rattle.frame.specs.Layout.{words, others, logical, frame};
+ghost use lib.ListN.{length};
 ghost use Rattle.frame.specs.Packing.{packAnswer, packWrites};
 
-// Every index in the range that a sender takes.
-fn takes(set: ParameterSet) -> bool
-    ensures { λ r. ⌜ r ≡ sendable set ⌝ }
+// The frame of a set in the default order, into the front of `out`; `sync` is the sender's state, and the
+// answer holds the next one. Refused: 1, an output of fewer than seven bytes; 5, a set out of range.
+pub fn pack(set: ParameterSet, sync: bool, out: &mut [u8]) -> PackAnswer
+    ensures answer { λ r. ⌜ r ≡ packAnswer set sync (length (now (out .entry))) ⌝ }
+    ensures written { λ _. ⌜ now (out .exit) ≡ packWrites set sync (now (out .entry)) ⌝ }
 {
-    match set {
-        ParameterSet::Unvoiced(x) => {
-            (x.l1 < 128) & (x.l2 < 64) & (x.l3 < 64) & (x.l4 < 64) & (x.g2 < 32) & (x.g1 < 8)
-        }
-        ParameterSet::Voiced(x, v) => {
-            (x.l1 < 128) & (x.l2 < 64) & (x.l3 < 64) & (x.l4 < 64) & (x.g2 < 32) & (x.g1 < 8)
-                & ((v.pitch < 99) & (v.bandpass < 16) & (v.aperiodic < 2)) & (v.bandpass != 1)
-        }
+    if out.len() < 7 {
+        return PackAnswer::Refused(1);
     }
+    if is_sendable(set) {
+        let bytes = place_bits(logical_word(set, sync));
+        bytes::copy(&bytes, out);
+        return PackAnswer::Packed(!sync);
+    }
+    PackAnswer::Refused(5)
 }

@@ -1,0 +1,75 @@
+-- `frame::word::four_words` meets its contract: the parts are joined from the first on. Assumes nothing.
+use mathlib.Core.Path.{_≡_, sym}
+use borrow.Author.Needs.{needs}
+use Rattle.frame.proofs.Numbers.{words-value}
+use Rattle.frame.proofs.word.four_words.Statement.{statement}
+use Rattle.frame.proofs.word.four_words.Tie as tie
+
+mul-a : tie.Need-mul-a
+mul-a c = search needs
+
+add-a : tie.Need-add-a
+add-a c = search needs
+
+mul-b : tie.Need-mul-b
+mul-b c = search needs
+
+add-b : tie.Need-add-b
+add-b c = search needs
+
+mul-c : tie.Need-mul-c
+mul-c c = search needs
+
+add-c : tie.Need-add-c
+add-c c = search needs
+
+mul-d : tie.Need-mul-d
+mul-d c = search needs
+
+add-d : tie.Need-add-d
+add-d c = search needs
+
+mul-d-2 : tie.Need-mul-d-2
+mul-d-2 c = search needs
+
+add-d-2 : tie.Need-add-d-2
+add-d-2 c = search needs
+
+cast-result : tie.Need-cast-result
+cast-result c = search needs
+
+mul-result : tie.Need-mul-result
+mul-result c = search needs
+
+cast-result-2 : tie.Need-cast-result-2
+cast-result-2 c = search needs
+
+add-result : tie.Need-add-result
+add-result c = search needs
+
+mul-result-2 : tie.Need-mul-result-2
+mul-result-2 c = search needs
+
+cast-result-3 : tie.Need-cast-result-3
+cast-result-3 c = search needs
+
+add-result-2 : tie.Need-add-result-2
+add-result-2 c = search needs
+
+mul-result-3 : tie.Need-mul-result-3
+mul-result-3 c = search needs
+
+cast-result-4 : tie.Need-cast-result-4
+cast-result-4 c = search needs
+
+add-result-3 : tie.Need-add-result-3
+add-result-3 c = search needs
+
+returns : tie.Need-returns
+returns c =
+    let s = c .before .before .before .before .before in
+    let a = s .args in
+    (sym (words-value (a .x) (s .pre .0 .0) (s .pre .0 .1) (s .pre .0 .2) (a .pa) (a .pb) (a .pc) (a .pd) (s .pre .1 .0) (s .pre .1 .1) (s .pre .1 .2) (s .pre .1 .3)), search needs)
+
+pub four-words-spec : {M : Type 1} → statement M
+four-words-spec = tie.close (tie.spec mul-a add-a mul-b add-b mul-c add-c mul-d add-d mul-d-2 add-d-2 cast-result mul-result cast-result-2 add-result mul-result-2 cast-result-3 add-result-2 mul-result-3 cast-result-4 add-result-3 returns)

@@ -1,0 +1,29 @@
+// The ranges of a set's indices.
+use crate::{Indices, ParameterSet, Voicing};
+
+ghost use mathlib.Core.Path.{_≡_};
+ghost use Rattle.frame.specs.Sets.{indicesFit, voicingFits, sendable};
+
+// The six indices of every set.
+fn indices_fit(x: Indices) -> bool
+    ensures { λ r. ⌜ r ≡ indicesFit x ⌝ }
+{
+    (x.l1 < 128) & (x.l2 < 64) & (x.l3 < 64) & (x.l4 < 64) & (x.g2 < 32) & (x.g1 < 8)
+}
+
+// The four of a voiced set; a Fourier index has eight bits, so it always fits.
+fn voicing_fits(v: Voicing) -> bool
+    ensures { λ r. ⌜ r ≡ voicingFits v ⌝ }
+{
+    (v.pitch < 99) & (v.bandpass < 16) & (v.aperiodic < 2)
+}
+
+// Whether a sender takes the set: every index in its range, and not the bandpass bits 0001.
+pub fn is_sendable(set: ParameterSet) -> bool
+    ensures { λ r. ⌜ r ≡ sendable set ⌝ }
+{
+    match set {
+        ParameterSet::Unvoiced(x) => indices_fit(x),
+        ParameterSet::Voiced(x, v) => indices_fit(x) & voicing_fits(v) & (v.bandpass != 1),
+    }
+}

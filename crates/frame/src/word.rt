@@ -1,0 +1,74 @@
+// The 54 logical bits of a set and a sync bit, as one number: logical bit 0 is the most significant.
+use crate::{Indices, ParameterSet, Voicing};
+use hamming::WordLength;
+use hamming::parity::parity_of;
+use pitch::code::code_of;
+
+ghost use mathlib.Core.Path.{_≡_};
+ghost use mathlib.Core.Bool.{true};
+ghost use Prim.Native.Nat.{_≤_, _<_, _^_};
+ghost use Rattle.bits.specs.Bits.{bitNum, value, bits};
+ghost use Rattle.frame.specs.Sets.{sendable};
+ghost use Rattle.frame.specs.Layout.{words, unvoicedWords, voicedWords, others, logical};
+
+// A bit as a number.
+fn bit_number(b: bool) -> u64
+    ensures { λ r. ⌜ (r ≡ bitNum b) × (r ≤ 1) ⌝ }
+{
+    if b { 1 } else { 0 }
+}
+
+// The four words, 28 bits: each word's data above what stands in its parity places.
+fn four_words(x: Indices, pa: u8, pb: u8, pc: u8, pd: u8) -> u64
+    requires { ⌜ (x .l1 < 128) × (x .g2 < 32) × (x .g1 < 8) ⌝ }
+    requires { ⌜ (pa < 16) × (pb < 8) × (pc < 8) × (pd < 8) ⌝ }
+    ensures { λ r. ⌜ (r ≡ value (words x (bits 4 pa) (bits 3 pb) (bits 3 pc) (bits 3 pd))) × (r < 2 ^ 28) ⌝ }
+{
+    let a = x.l1 / 8 * 16 + pa;
+    let b = x.l1 % 8 * 8 + pb;
+    let c = x.g2 / 2 * 8 + pc;
+    let d = (x.g2 % 2 * 8 + x.g1) * 8 + pd;
+    ((a as u64 * 64 + b as u64) * 128 + c as u64) * 128 + d as u64
+}
+
+// The other bits, 26 of them: the pitch code, L2, L3, L4 and the sync bit.
+fn other_bits(x: Indices, code: u8, sync: bool) -> u64
+    requires { ⌜ (x .l2 < 64) × (x .l3 < 64) × (x .l4 < 64) × (code < 128) ⌝ }
+    ensures { λ r. ⌜ (r ≡ value (others x (bits 7 code) sync)) × (r < 2 ^ 26) ⌝ }
+{
+    let spectrum = (x.l2 as u64 * 64 + x.l3 as u64) * 64 + x.l4 as u64;
+    (code as u64 * 262144 + spectrum) * 2 + bit_number(sync)
+}
+
+// What a voiced set has in the parity places of its words.
+fn voiced_words(x: Indices, v: Voicing) -> u64
+    requires { ⌜ (x .l1 < 128) × (x .g2 < 32) × (x .g1 < 8) ⌝ }
+    requires { ⌜ (v .bandpass < 16) × (v .aperiodic < 2) ⌝ }
+    ensures { λ r. ⌜ (r ≡ value (voicedWords x v)) × (r < 2 ^ 28) ⌝ }
+{
+    let f = v.fourier;
+    four_words(x, v.bandpass, f / 32, f / 4 % 8, f % 4 * 2 + v.aperiodic)
+}
+
+// What an unvoiced set has there: the parity of their data.
+fn unvoiced_words(x: Indices) -> u64
+    requires { ⌜ (x .l1 < 128) × (x .g2 < 32) × (x .g1 < 8) ⌝ }
+    ensures { λ r. ⌜ (r ≡ value (unvoicedWords x)) × (r < 2 ^ 28) ⌝ }
+{
+    let a = parity_of(WordLength::Eight, x.l1 / 8);
+    let b = parity_of(WordLength::Six, x.l1);
+    let c = parity_of(WordLength::Seven, x.g2 / 2);
+    let d = parity_of(WordLength::Seven, x.g2 % 2 * 8 + x.g1);
+    four_words(x, a, b, c, d)
+}
+
+// All 54 bits.
+pub(crate) fn logical_word(set: ParameterSet, sync: bool) -> u64
+    requires { ⌜ sendable set ≡ true ⌝ }
+    ensures { λ r. ⌜ r ≡ value (logical set sync) ⌝ }
+{
+    match set {
+        ParameterSet::Unvoiced(x) => unvoiced_words(x) * 67108864 + other_bits(x, 0, sync),
+        ParameterSet::Voiced(x, v) => voiced_words(x, v) * 67108864 + other_bits(x, code_of(v.pitch), sync),
+    }
+}
