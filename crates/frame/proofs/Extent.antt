@@ -31,7 +31,7 @@ module _ (g h : ℕ → Bool) (e : (j : ℕ) → j < 53 → g j ≡ h j) where
     l3 = value (cuts 41 6 (lit≤ tt) i);
     l4 = value (cuts 47 6 (lit≤ tt) i);
     g2 = c * 2 + d / 8;
-    g1 = d % 8
+    g1 = d % 8;
   }
 
   voicing-ext : (p : ℕ) → voicingOf g p ≡ voicingOf h p
@@ -39,7 +39,7 @@ module _ (g h : ℕ → Bool) (e : (j : ℕ) → j < 53 → g j ≡ h j) where
     pitch = p;
     bandpass = value (cuts 4 4 (lit≤ tt) i);
     fourier = value (cuts 11 3 (lit≤ tt) i ++ (cuts 18 3 (lit≤ tt) i ++ cuts 25 2 (lit≤ tt) i));
-    aperiodic = value (cuts 27 1 (lit≤ tt) i)
+    aperiodic = value (cuts 27 1 (lit≤ tt) i);
   }
 
   repaired-ext : pitchRepaired g ≡ pitchRepaired h

@@ -6,3 +6,5 @@ pub mod Extent
 pub mod Ordered
 pub mod Neighbours
 pub mod Numbers
+pub mod Packed
+pub mod Front

@@ -63,5 +63,5 @@ seven-neighbours fl w = record {
   b = spread-one 7 fl w (cut (placeOf defaultOrder) 8 6) tt;
   c = spread-one 7 fl w (cut (placeOf defaultOrder) 14 7) tt;
   d = spread-one 7 fl w (cut (placeOf defaultOrder) 21 7) tt;
-  pitch = spread-one 7 fl w (cut (placeOf defaultOrder) 28 7) tt
+  pitch = spread-one 7 fl w (cut (placeOf defaultOrder) 28 7) tt;
 }

@@ -37,7 +37,7 @@ index-ranges x t =
       l3 = ltb→lt (x .l3) 64 (and-right (ltb (x .l1) 128 && ltb (x .l2) 64) (ltb (x .l3) 64) t2);
       l4 = ltb→lt (x .l4) 64 (and-right (ltb (x .l1) 128 && ltb (x .l2) 64 && ltb (x .l3) 64) (ltb (x .l4) 64) t3);
       g2 = ltb→lt (x .g2) 32 (and-right (ltb (x .l1) 128 && ltb (x .l2) 64 && ltb (x .l3) 64 && ltb (x .l4) 64) (ltb (x .g2) 32) t4);
-      g1 = ltb→lt (x .g1) 8 (and-right (ltb (x .l1) 128 && ltb (x .l2) 64 && ltb (x .l3) 64 && ltb (x .l4) 64 && ltb (x .g2) 32) (ltb (x .g1) 8) t)
+      g1 = ltb→lt (x .g1) 8 (and-right (ltb (x .l1) 128 && ltb (x .l2) 64 && ltb (x .l3) 64 && ltb (x .l4) 64 && ltb (x .g2) 32) (ltb (x .g1) 8) t);
     }
 
 pub voicing-ranges : (v : Voicing) → T (voicingFits v) → VoicingRanges v
@@ -48,7 +48,7 @@ voicing-ranges v t =
       pitch = ltb→lt (v .pitch) 99 (and-left (ltb (v .pitch) 99) (ltb (v .bandpass) 16) t1);
       bandpass = ltb→lt (v .bandpass) 16 (and-right (ltb (v .pitch) 99) (ltb (v .bandpass) 16) t1);
       fourier = ltb→lt (v .fourier) 256 (and-right (ltb (v .pitch) 99 && ltb (v .bandpass) 16) (ltb (v .fourier) 256) t2);
-      aperiodic = ltb→lt (v .aperiodic) 2 (and-right (ltb (v .pitch) 99 && ltb (v .bandpass) 16 && ltb (v .fourier) 256) (ltb (v .aperiodic) 2) t)
+      aperiodic = ltb→lt (v .aperiodic) 2 (and-right (ltb (v .pitch) 99 && ltb (v .bandpass) 16 && ltb (v .fourier) 256) (ltb (v .aperiodic) 2) t);
     }
 
 -- what a sender takes is in range

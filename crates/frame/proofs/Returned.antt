@@ -40,12 +40,12 @@ module _ (x : Indices) (sync : Bool) (r : IndexRanges x) where
         l3 = value-bits 6 (x .l3) (r .l3) i;
         l4 = value-bits 6 (x .l4) (r .l4) i;
         g2 = g2-back x (r .g2) i;
-        g1 = g1-back x (r .g1) i
+        g1 = g1-back x (r .g1) i;
       }) (record {
         pitch = v .pitch;
         bandpass = value-bits 4 (v .bandpass) (s .bandpass) i;
         fourier = value-bits 8 (v .fourier) (s .fourier) i;
-        aperiodic = value-bits 1 (v .aperiodic) (s .aperiodic) i
+        aperiodic = value-bits 1 (v .aperiodic) (s .aperiodic) i;
       })) 0)
 
 -- the bits of a set in range are read as that set, with nothing repaired

@@ -1,6 +1,6 @@
 -- Document 01, "Order of the bits" and "Refusals by place": what a packing call answers and leaves.
 use Prim.Native.Nat.{ℕ, zero, suc}
-use mathlib.Core.Bool.{Bool, not, cond}
+use mathlib.Core.Bool.{Bool, false, not, cond}
 use mathlib.Core.List.{List, _++_}
 use lib.Dec.{ltb}
 use lib.ListN.{length, drop}
@@ -10,6 +10,10 @@ use Rattle.frame.specs.Layout.{frame}
 use Rattle.frame.specs.declared.ParameterSet.{ParameterSet}
 use Rattle.frame.specs.declared.PackAnswer.{PackAnswer}
 use Rattle.frame.specs.declared.PackAnswer.the-variants.{Packed, Refused}
+
+-- the sync bit of a fresh sender
+abbrev pub freshSync : Bool
+freshSync = false
 
 -- the refusal, 0 is none: 1 for an output of fewer than seven bytes, then 5 for a set that a sender does not take
 abbrev pub packRefusal : ParameterSet → ℕ → ℕ

@@ -29,7 +29,7 @@ indicesOf g a b c d = record {
   l3 = value (cut g 41 6);
   l4 = value (cut g 47 6);
   g2 = c * 2 + d / 8;
-  g1 = d % 8
+  g1 = d % 8;
 }
 
 -- the four of a voiced set, from the parity places and the pitch index

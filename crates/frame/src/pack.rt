@@ -1,12 +1,24 @@
 // Packing: a parameter set and a sync bit into the seven bytes of a frame.
+use crate::PackAnswer;
+use crate::ParameterSet;
 use crate::range::is_sendable;
 use crate::word::logical_word;
-use crate::{PackAnswer, ParameterSet};
 use order::place::place_bits;
-
 ghost use mathlib.Core.Path.{_≡_};
-ghost use lib.ListN.{length};
+ghost use mathlib.Core.List.{_++_};
+ghost use Prim.Native.Nat.{_≤_};
+ghost use lib.ListN.{length, drop};
 ghost use Rattle.frame.specs.Packing.{packAnswer, packWrites};
+
+// Seven bytes to the front of a slice; the rest of it stays.
+fn write_front(out: &mut [u8], bytes: [u8; 7])
+    requires { ⌜ 7 ≤ length (now out) ⌝ }
+    ensures { λ _. ⌜ now (out .exit) ≡ bytes ++ drop 7 (now (out .entry)) ⌝ }
+{
+    for i in 0..7 {
+        out[i] = bytes[i];
+    }
+}
 
 // The frame of a set in the default order, into the front of `out`; `sync` is the sender's state, and the
 // answer holds the next one. Refused: 1, an output of fewer than seven bytes; 5, a set out of range.
@@ -18,8 +30,7 @@ pub fn pack(set: ParameterSet, sync: bool, out: &mut [u8]) -> PackAnswer
         return PackAnswer::Refused(1);
     }
     if is_sendable(set) {
-        let bytes = place_bits(logical_word(set, sync));
-        bytes::copy(&bytes, out);
+        write_front(out, place_bits(logical_word(set, sync)));
         return PackAnswer::Packed(!sync);
     }
     PackAnswer::Refused(5)

@@ -1,6 +1,7 @@
 // The ranges of a set's indices.
-use crate::{Indices, ParameterSet, Voicing};
-
+use crate::Indices;
+use crate::ParameterSet;
+use crate::Voicing;
 ghost use mathlib.Core.Path.{_≡_};
 ghost use Rattle.frame.specs.Sets.{indicesFit, voicingFits, sendable};
 

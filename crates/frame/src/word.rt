@@ -1,9 +1,10 @@
 // The 54 logical bits of a set and a sync bit, as one number: logical bit 0 is the most significant.
-use crate::{Indices, ParameterSet, Voicing};
+use crate::Indices;
+use crate::ParameterSet;
+use crate::Voicing;
 use hamming::WordLength;
 use hamming::parity::parity_of;
 use pitch::code::code_of;
-
 ghost use mathlib.Core.Path.{_≡_};
 ghost use mathlib.Core.Bool.{true};
 ghost use Prim.Native.Nat.{_≤_, _<_, _^_};
@@ -69,6 +70,7 @@ pub(crate) fn logical_word(set: ParameterSet, sync: bool) -> u64
 {
     match set {
         ParameterSet::Unvoiced(x) => unvoiced_words(x) * 67108864 + other_bits(x, 0, sync),
-        ParameterSet::Voiced(x, v) => voiced_words(x, v) * 67108864 + other_bits(x, code_of(v.pitch), sync),
+        ParameterSet::Voiced(x, v) => voiced_words(x, v) * 67108864
+            + other_bits(x, code_of(v.pitch), sync),
     }
 }

@@ -21,11 +21,11 @@ unfoldable pub nearest : (ℕ → ℕ) → ℤ → ℕ → ℕ
 nearest lv x zero = 0
 nearest lv x (suc n) = nearer lv x (nearest lv x n) (suc n)
 
--- G2 is the nearest level's index
+-- the second code: the index of the nearest of the 32 levels
 abbrev pub chosenG2 : ℤ → ℕ
 chosenG2 second = nearest level second 31
 
--- d is at most 2 and the first level is at most 558 from the mean of the quantised levels
+-- a steady frame: second codes at most 2 apart, and the first level within 3 dB of their levels' mean
 abbrev pub steady : ℤ → ℕ → ℕ → Bool
 steady first g2 q = leb (apart g2 q) 2 && leb (distance first (mean g2 q)) 558
 
@@ -33,11 +33,11 @@ steady first g2 q = leb (apart g2 q) 2 && leb (distance first (mean g2 q)) 558
 abbrev pub sevenLevels : ℕ → ℕ → ℕ → ℕ
 sevenLevels g2 q i = firstLevel g2 (suc i) q
 
--- G1 is 0 exactly if steady; otherwise 1 plus the index of the nearest of the seven
+-- the first code: 0 for a steady frame and for no other, else one more than the index of the nearest of the seven
 unfoldable pub chosenG1 : ℤ → ℕ → ℕ → ℕ
 chosenG1 first g2 q = cond (steady first g2 q) 0 (1 + nearest (sevenLevels g2 q) first 6)
 
--- each level is in −18600..37200
+-- the levels that codes are chosen for, −18600 to 37200
 abbrev pub levelInRange : ℤ → Bool
 levelInRange x = leZ (negℤ (pos 18600)) x && leZ x (pos 37200)
 
@@ -51,6 +51,6 @@ codesUnless zero g2 g1 = Codes g2 g1
 codesUnless (suc n) g2 g1 = Refused (suc n)
 
 -- the answer to a call for both codes
-unfoldable pub chooseCall : ℤ → ℤ → ℕ → CodesAnswer
-chooseCall first second q =
+unfoldable pub chooseAnswer : ℤ → ℤ → ℕ → CodesAnswer
+chooseAnswer first second q =
     codesUnless (chooseRefusal first second q) (chosenG2 second) (chosenG1 first (chosenG2 second) q)

@@ -5,11 +5,11 @@ use lib.Dec.{leb}
 use Rattle.gain.specs.declared.LevelAnswer.{LevelAnswer}
 use Rattle.gain.specs.declared.LevelAnswer.the-variants.{Level, Refused}
 
--- level of G2 = 1860 + 402 × G2, in units of 1/186 dB, document 01's grain
+-- the level of a second code, in units of 1/186 dB (document 01's grain): 10 dB to 77 dB in 31 steps
 abbrev pub level : ℕ → ℕ
 level g2 = 1860 + 402 * g2
 
--- d = |G2 − q|
+-- d, the distance of two second codes
 abbrev pub apart : ℕ → ℕ → ℕ
 apart g2 q = (g2 - q) + (q - g2)
 
@@ -17,7 +17,7 @@ apart g2 q = (g2 - q) + (q - g2)
 abbrev pub mean : ℕ → ℕ → ℕ
 mean g2 q = (level g2 + level q) / 2
 
--- code 0 gives the mean of both levels; code c from 1 to 7 gives the smaller level − 1116 + (c − 1) × (67 × d + 372)
+-- the first level of a code: 0 is the mean; 1 to 7 go up from 6 dB below the smaller level to 6 dB above the larger one
 unfoldable pub firstLevel : ℕ → ℕ → ℕ → ℕ
 firstLevel g2 zero q = mean g2 q
 firstLevel g2 (suc c) q = min (level g2) (level q) - 1116 + c * (67 * apart g2 q + 372)
@@ -36,9 +36,9 @@ levelUnless zero l = Level l
 levelUnless (suc n) l = Refused (suc n)
 
 -- the answer to a call for the level of G2
-unfoldable pub levelCall : ℕ → LevelAnswer
-levelCall g2 = levelUnless (levelRefusal g2) (level g2)
+unfoldable pub levelAnswer : ℕ → LevelAnswer
+levelAnswer g2 = levelUnless (levelRefusal g2) (level g2)
 
 -- the answer to a call for the first level
-unfoldable pub firstLevelCall : ℕ → ℕ → ℕ → LevelAnswer
-firstLevelCall g2 code q = levelUnless (firstLevelRefusal g2 code q) (firstLevel g2 code q)
+unfoldable pub firstLevelAnswer : ℕ → ℕ → ℕ → LevelAnswer
+firstLevelAnswer g2 code q = levelUnless (firstLevelRefusal g2 code q) (firstLevel g2 code q)

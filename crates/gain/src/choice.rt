@@ -10,14 +10,14 @@ ghost use mathlib.Core.Path.{_≡_};
 ghost use mathlib.Core.Bool.{true};
 ghost use Prim.Native.Nat.{_≤_};
 ghost use lib.IntN.{pos, _+ℤ_};
-ghost use Rattle.gain.specs.Choice.{levelInRange, chosenG2, steady, chosenG1, chooseCall};
+ghost use Rattle.gain.specs.Choice.{levelInRange, chosenG2, steady, chosenG1, chooseAnswer};
 
 // Added to a level in range and to the levels that it is compared with, it leaves none below 0.
 const RAISE: u32 = 18600;
 
 // The codes of a frame's first and second level, after the second code `q`.
 pub fn choose(first: i32, second: i32, q: u8) -> CodesAnswer
-    ensures { λ r. ⌜ r ≡ chooseCall first second q ⌝ }
+    ensures { λ r. ⌜ r ≡ chooseAnswer first second q ⌝ }
 {
     if level_in_range(first) & level_in_range(second) & (q <= 31) {
         let g2 = second_code(second);

@@ -3,7 +3,7 @@ use crate::LevelAnswer;
 use crate::OUT_OF_RANGE;
 ghost use mathlib.Core.Path.{_≡_};
 ghost use Prim.Native.Nat.{_+_, _*_, min};
-ghost use Rattle.gain.specs.Levels.{level, apart, mean, firstLevel, levelCall, firstLevelCall};
+ghost use Rattle.gain.specs.Levels.{level, apart, mean, firstLevel, levelAnswer, firstLevelAnswer};
 
 // The level of a second code in units of 1/186 dB, by the formula alone.
 pub fn gain_level(g2: u8) -> u32
@@ -24,7 +24,7 @@ pub fn first_gain_level(g2: u8, code: u8, q: u8) -> u32
 
 // The level of a second code, refused past 31.
 pub fn level(g2: u8) -> LevelAnswer
-    ensures { λ r. ⌜ r ≡ levelCall g2 ⌝ }
+    ensures { λ r. ⌜ r ≡ levelAnswer g2 ⌝ }
 {
     if g2 <= 31 {
         LevelAnswer::Level(gain_level(g2))
@@ -35,7 +35,7 @@ pub fn level(g2: u8) -> LevelAnswer
 
 // The first level of a frame, refused where a code is out of range.
 pub fn first_level(g2: u8, code: u8, q: u8) -> LevelAnswer
-    ensures { λ r. ⌜ r ≡ firstLevelCall g2 code q ⌝ }
+    ensures { λ r. ⌜ r ≡ firstLevelAnswer g2 code q ⌝ }
 {
     if (g2 <= 31) & (code <= 7) & (q <= 31) {
         LevelAnswer::Level(first_gain_level(g2, code, q))

@@ -4,3 +4,4 @@ pub mod Bytes
 pub mod Frames
 pub mod Default
 pub mod Words
+pub mod Refusals

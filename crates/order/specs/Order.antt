@@ -58,6 +58,10 @@ logicalBit ord bytes j = bitAt bytes (placeOf ord j)
 abbrev pub padding : List ℕ → List Bool
 padding bytes = cut (bitAt bytes) 54 2
 
+-- the refusal of a frame, 0 is none: 2 where it is not seven bytes, then 3 where one of its last two bits is set
+abbrev pub frameRefusal : List ℕ → ℕ
+frameRefusal bytes = cond (eqb (length bytes) 7) (cond (eqb (ones (padding bytes)) 0) 0 3) 2
+
 -- the frame that a channel hands on: the places that fl names among 0 to 53 are changed, nothing else
 unfoldable pub through : (ℕ → Bool) → List ℕ → List ℕ
 through fl bytes = bytesOf (λ t. bitAt bytes t ⊻ (ltb t 54 && fl t))

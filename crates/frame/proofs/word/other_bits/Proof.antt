@@ -45,9 +45,11 @@ add-result-2 c = search needs
 returns : tie.Need-returns
 returns c =
     let s = c .before .before .before .before in
-    let a = s .args in
-    (ap (λ (n : ℕ). (a .code * 262144 + ((a .x .l2 * 64 + a .x .l3) * 64 + a .x .l4)) * 2 + n) (c .bit-number .ensures .0)
-    ∙ sym (others-value (a .x) (s .pre .0) (s .pre .1) (s .pre .2) (a .code) (a .sync) (s .pre .3)), search needs)
+    let a = s .args in (
+      ap (λ (n : ℕ). (a .code * 262144 + ((a .x .l2 * 64 + a .x .l3) * 64 + a .x .l4)) * 2 + n) (c .bit-number .ensures .0)
+          ∙ sym (others-value (a .x) (s .pre .0) (s .pre .1) (s .pre .2) (a .code) (a .sync) (s .pre .3)),
+      search needs,
+    )
 
 pub other-bits-spec : {M : Type 1} → statement M
 other-bits-spec = tie.close (tie.spec cast-spectrum mul-spectrum cast-spectrum-2 add-spectrum mul-spectrum-2 cast-spectrum-3 add-spectrum-2 mul-result add-result mul-result-2 bit-number-requires add-result-2 returns)

@@ -30,26 +30,24 @@ parity-of-requires-4 c κs = search needs
 four-words-requires : tie.Need-four-words-requires
 four-words-requires c κs =
     let s = c .before .before .before .before .before .before .before .before in
-    let x = s .args .x in
-    (
+    let x = s .args .x in (
       s .pre,
       (
         value-bound 4 (parityOf 8 (bits 4 (x .l1 / 8))) _ refl (c .before .before .before .before .before .before .parity-of .ensures),
         value-bound 3 (parityOf 6 (bits 3 (x .l1))) _ refl (c .before .before .before .before .before .parity-of2 .ensures),
         value-bound 3 (parityOf 7 (bits 4 (x .g2 / 2))) _ refl (c .before .before .before .parity-of3 .ensures),
-        value-bound 3 (parityOf 7 (bits 4 (x .g2 % 2 * 8 + x .g1))) _ refl (c .parity-of4 .ensures)
-      )
+        value-bound 3 (parityOf 7 (bits 4 (x .g2 % 2 * 8 + x .g1))) _ refl (c .parity-of4 .ensures),
+      ),
     )
 
 returns : tie.Need-returns
 returns c =
     let d = c .before in
-    let s = d .before .before .before .before .before .before .before .before in
-    (
+    let s = d .before .before .before .before .before .before .before .before in (
       c .four-words .ensures .0
-      ∙ ap value (unvoiced-words (s .args .x) (s .pre .2) _ _ _ _ (d .before .before .before .before .before .before .parity-of .ensures) (d .before .before .before .before .before .parity-of2 .ensures)
-        (d .before .before .before .parity-of3 .ensures) (d .parity-of4 .ensures)),
-      c .four-words .ensures .1
+          ∙ ap value (unvoiced-words (s .args .x) (s .pre .2) _ _ _ _ (d .before .before .before .before .before .before .parity-of .ensures) (d .before .before .before .before .before .parity-of2 .ensures)
+          (d .before .before .before .parity-of3 .ensures) (d .parity-of4 .ensures)),
+      c .four-words .ensures .1,
     )
 
 pub unvoiced-words-spec : {M : Type 1} → statement M

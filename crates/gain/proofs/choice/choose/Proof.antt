@@ -8,7 +8,7 @@ use mir.Syntax.{w32}
 use mir.ValLaws.{toZ-ofZ}
 use borrow.Author.Needs.{needs}
 use borrow.Author.Tests.{leb-true}
-use Rattle.gain.specs.Choice.{levelInRange, chosenG2, chosenG1, chooseCall}
+use Rattle.gain.specs.Choice.{levelInRange, chosenG2, chosenG1, chooseAnswer}
 use Rattle.gain.proofs.choice.choose.Statement.{statement}
 use Rattle.gain.proofs.choice.choose.Tie as tie
 
@@ -47,7 +47,7 @@ first-code-requires c κs =
     simp (toZ-ofZ w32 _ (c .before .before .before .before .fits .first)) (r .0, c .second-code .ensures .1, r .2)
 
 returns : tie.Need-returns
-unfolding chooseCall
+unfolding chooseAnswer
 returns c =
     let t = c .before .before in
     let s = t .before .before .before in
@@ -57,7 +57,7 @@ returns c =
     simp (sym (first-is (t .before)), sym (second-is (t .before)), t .if1 .taken, f, g)
 
 returns-2 : tie.Need-returns-2
-unfolding chooseCall
+unfolding chooseAnswer
 returns-2 c = simp (sym (first-is (c .before)), sym (second-is (c .before)), c .if1 .left)
 
 pub choose-spec : {M : Type 1} → statement M

@@ -1,6 +1,6 @@
 -- `gain::levels::first_level` meets its contract: each answer goes by the test before it. Assumes nothing.
 use borrow.Author.Needs.{needs}
-use Rattle.gain.specs.Levels.{firstLevelCall}
+use Rattle.gain.specs.Levels.{firstLevelAnswer}
 use Rattle.gain.proofs.levels.first_level.Statement.{statement}
 use Rattle.gain.proofs.levels.first_level.Tie as tie
 
@@ -8,11 +8,11 @@ first-gain-level-requires : tie.Need-first-gain-level-requires
 first-gain-level-requires c κs = search needs
 
 returns : tie.Need-returns
-unfolding firstLevelCall
+unfolding firstLevelAnswer
 returns c = simp (c .before .if1 .taken, c .first-gain-level .ensures)
 
 returns-2 : tie.Need-returns-2
-unfolding firstLevelCall
+unfolding firstLevelAnswer
 returns-2 c = simp (c .if1 .left)
 
 pub first-level-spec : {M : Type 1} → statement M

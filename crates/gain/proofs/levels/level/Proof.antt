@@ -1,7 +1,7 @@
 -- `gain::levels::level` meets its contract: each answer goes by the test before it. Assumes nothing.
 use borrow.Author.Needs.{needs}
 use borrow.Author.Tests.{le-leb, lt-leb}
-use Rattle.gain.specs.Levels.{levelCall}
+use Rattle.gain.specs.Levels.{levelAnswer}
 use Rattle.gain.proofs.levels.level.Statement.{statement}
 use Rattle.gain.proofs.levels.level.Tie as tie
 
@@ -9,11 +9,11 @@ gain-level-requires : tie.Need-gain-level-requires
 gain-level-requires c κs = search needs
 
 returns : tie.Need-returns
-unfolding levelCall
+unfolding levelAnswer
 returns c = simp (le-leb _ _ (c .before .if1 .taken), c .gain-level .ensures)
 
 returns-2 : tie.Need-returns-2
-unfolding levelCall
+unfolding levelAnswer
 returns-2 c = simp (lt-leb _ _ (c .if1 .left))
 
 pub level-spec : {M : Type 1} → statement M

@@ -1,0 +1,71 @@
+-- Document 01, "Examples", in its own numbers. Bits are written in binary, first bit first.
+use Prim.Native.Nat.{ℕ}
+use mathlib.Core.Path.{_≡_}
+use mathlib.Core.List.{List, [], _∷_}
+use lib.IntN.{pos}
+use Rattle.bits.specs.Bits.{bits}
+use Rattle.pitch.specs.Pitch.{classAnswer}
+use Rattle.pitch.specs.declared.PitchClass.the-variants as pitch
+use Rattle.pitch.specs.declared.ClassAnswer.the-variants.{Class}
+use Rattle.hamming.specs.Word.{parityOf, encode, flipAt, decode}
+use Rattle.hamming.specs.declared.Decoded.the-variants.{Read, Erased}
+use Rattle.order.specs.Order.{defaultOrder}
+use Rattle.gain.specs.Levels.{firstLevelAnswer}
+use Rattle.gain.specs.Choice.{chosenG2, chosenG1}
+use Rattle.gain.specs.declared.LevelAnswer.the-variants.{Level}
+use Rattle.frame.specs.Layout.{frame}
+use Rattle.frame.specs.Packing.{freshSync}
+use Rattle.frame.specs.declared.ParameterSet.{ParameterSet}
+use Rattle.frame.specs.declared.ParameterSet.the-variants.{Unvoiced}
+
+-- 1: classes of pitch codes
+pub record PitchCodes : Type 0 where
+  pub zero-ones : classAnswer 0x00 ≡ Class pitch.Unvoiced
+  pub one-one : classAnswer 0x40 ≡ Class pitch.Unvoiced
+  pub two-ones : classAnswer 0x60 ≡ Class pitch.Erased
+  pub lowest : classAnswer 0x07 ≡ Class (pitch.Voiced 0)
+  pub middle : classAnswer 0x70 ≡ Class (pitch.Voiced 83)
+  pub highest : classAnswer 0x7F ≡ Class (pitch.Voiced 98)
+
+-- 2: word A of data 1011, as sent and with flips; bits 0 to 3 are u0 to u3, bits 4 to 7 are p0 to p3
+pub record WordA : Type 0 where
+  pub parity : parityOf 8 (bits 4 0b1011) ≡ bits 4 0b0100
+  pub one-flip : decode 8 (flipAt 0 (encode 8 (bits 4 0b1011))) ≡ Read 0b1011 1
+  pub two-flips : decode 8 (flipAt 0 (flipAt 1 (encode 8 (bits 4 0b1011)))) ≡ Erased
+  pub three-flips : decode 8 (flipAt 4 (flipAt 5 (flipAt 6 (encode 8 (bits 4 0b1011))))) ≡ Read 0b1010 1
+
+-- 3: word B of data 010
+pub record WordB : Type 0 where
+  pub parity : parityOf 6 (bits 3 0b010) ≡ bits 3 0b101
+
+-- 4: first levels and first codes after G2 = 10, where G2 = 11
+pub record FirstLevels : Type 0 where
+  pub code-0 : firstLevelAnswer 11 0 10 ≡ Level 6081
+  pub code-1 : firstLevelAnswer 11 1 10 ≡ Level 4764
+  pub code-7 : firstLevelAnswer 11 7 10 ≡ Level 7398
+  pub steady : chosenG1 (pos 6639) 11 10 ≡ 0
+  pub transition : chosenG1 (pos 6640) 11 10 ≡ 5
+
+-- 5: second codes on both sides of a threshold
+pub record SecondCodes : Type 0 where
+  pub on-threshold : chosenG2 (pos 2061) ≡ 0
+  pub above : chosenG2 (pos 2062) ≡ 1
+
+-- 6: the frame of L1 = 90, G2 = 11, all else 0, unvoiced, from a fresh sender
+abbrev pub ninety : ParameterSet
+ninety = Unvoiced (record { l1 = 90; l2 = 0; l3 = 0; l4 = 0; g2 = 11; g1 = 0 })
+
+abbrev pub ninetyBytes : List ℕ
+ninetyBytes = 0x80 ∷ 0x56 ∷ 0x0D ∷ 0x40 ∷ 0x15 ∷ 0x00 ∷ 0x10 ∷ []
+
+pub record Frames : Type 0 where
+  pub ninety-packed : frame defaultOrder ninety freshSync ≡ ninetyBytes
+
+-- all together
+pub record Examples : Type 0 where
+  pub example-1 : PitchCodes
+  pub example-2 : WordA
+  pub example-3 : WordB
+  pub example-4 : FirstLevels
+  pub example-5 : SecondCodes
+  pub example-6 : Frames
