@@ -1,7 +1,10 @@
 // The coded frame: parameter sets, their 54 logical bits, what bits are read as, and packing.
-pub mod pack;
-pub mod range;
+mod packing;
+mod range;
 mod word;
+
+pub use packing::pack;
+pub use range::is_sendable;
 
 // The indices that every set has: four LSF stages, the second gain index and the first gain code.
 pub struct Indices {

@@ -3,9 +3,15 @@
 //   levels     from codes to levels: the second level, and the first level
 //   choice     from two levels to their codes
 //   quantiser  the uniform quantiser by which both codes are chosen
-pub mod choice;
-pub mod levels;
+mod choice;
+mod levels;
 mod quantiser;
+
+pub use choice::choose;
+pub use levels::first_gain_level;
+pub use levels::first_level;
+pub use levels::gain_level;
+pub use levels::level;
 
 // The refusal of a parameter that is out of its range.
 const OUT_OF_RANGE: u8 = 5;

@@ -1,6 +1,9 @@
 // The four protected words of an unvoiced frame: parity, syndrome and repair.
-pub mod parity;
-pub mod repair;
+mod parity;
+mod repair;
+
+pub use parity::parity_of;
+pub use repair::decode;
 
 // How many bits a word has: eight in A, six in B, seven in C and D.
 pub enum WordLength {

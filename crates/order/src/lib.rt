@@ -1,2 +1,4 @@
 // The order of a frame's bits: which logical bit stands at which place, and the seven bytes of the places.
-pub mod place;
+mod place;
+
+pub use place::place_bits;

@@ -1,6 +1,11 @@
 // The pitch code of a frame: seven bits that tell unvoiced from voiced and carry the pitch index.
-pub mod class;
-pub mod code;
+mod class;
+mod code;
+
+pub use class::class_of;
+pub use class::classify;
+pub use code::code_of;
+pub use code::encode;
 
 // What a pitch code says of its frame; a voiced one has its pitch index.
 pub enum PitchClass {

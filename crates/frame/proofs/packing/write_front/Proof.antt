@@ -1,4 +1,4 @@
--- `frame::pack::write_front` meets its contract: after i turns the first i bytes are in front. Assumes nothing.
+-- `frame::packing::write_front` meets its contract: after i turns the first i bytes are in front. Assumes nothing.
 use mathlib.Core.Path.{_≡_}
 use mathlib.Core.List.{_++_}
 use Prim.Native.Nat.{_-_, _≤_, _<_}
@@ -7,8 +7,8 @@ use lib.ListN.{length, take, drop}
 use lib.Seq.{take-all}
 use borrow.Author.Needs.{needs}
 use Rattle.frame.proofs.Front.{front-more}
-use Rattle.frame.proofs.pack.write_front.Statement.{statement}
-use Rattle.frame.proofs.pack.write_front.Tie as tie
+use Rattle.frame.proofs.packing.write_front.Statement.{statement}
+use Rattle.frame.proofs.packing.write_front.Tie as tie
 
 abbrev Inv-loop : tie.InvT-loop
 Inv-loop out₀ bytes i₀ out i = (i ≤ 7) × (length out ≡ length out₀) × (out ≡ take i bytes ++ drop i out₀) × (length bytes ≡ 7)

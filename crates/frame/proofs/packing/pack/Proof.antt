@@ -1,10 +1,10 @@
--- `frame::pack::pack` meets its contract: the tests decide the refusal, and what is written is the frame. Assumes nothing.
+-- `frame::packing::pack` meets its contract: the tests decide the refusal, and what is written is the frame. Assumes nothing.
 use mathlib.Core.Path.{sym, _∙_}
 use borrow.Author.Needs.{needs}
 use Rattle.order.specs.Order.{defaultOrder}
 use Rattle.frame.proofs.Packed.{word-frame, short-owes, range-owes, packed-owes}
-use Rattle.frame.proofs.pack.pack.Statement.{statement}
-use Rattle.frame.proofs.pack.pack.Tie as tie
+use Rattle.frame.proofs.packing.pack.Statement.{statement}
+use Rattle.frame.proofs.packing.pack.Tie as tie
 
 returns : tie.Need-returns
 returns c =

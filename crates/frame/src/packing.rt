@@ -3,7 +3,7 @@ use crate::PackAnswer;
 use crate::ParameterSet;
 use crate::range::is_sendable;
 use crate::word::logical_word;
-use order::place::place_bits;
+use order::place_bits;
 ghost use mathlib.Core.Path.{_≡_};
 ghost use mathlib.Core.List.{_++_};
 ghost use Prim.Native.Nat.{_≤_};
