@@ -1,0 +1,55 @@
+-- `vectors::coder::pack_agrees` is safe: at most 16 bytes of the output are lent. Assumes nothing.
+use mathlib.Core.Path.{sym}
+use lib.Seq.{length-take-le}
+use borrow.Author.Needs.{needs}
+use Rattle.vectors.proofs.coder.pack_agrees.Statement.{statement}
+use Rattle.vectors.proofs.coder.pack_agrees.Tie as tie
+
+array-read-room : tie.Need-array-read-room
+array-read-room c = search needs
+
+cast-room : tie.Need-cast-room
+cast-room c = search needs
+
+returns : tie.Need-returns
+returns c = search needs
+
+set-of-requires : tie.Need-set-of-requires
+set-of-requires c κs = search needs
+
+array-read-pack : tie.Need-array-read-pack
+array-read-pack c = search needs
+
+array-borrow-prefix-out : tie.Need-array-borrow-prefix-out
+array-borrow-prefix-out c = search needs
+
+slice-aggregate-pack : tie.Need-slice-aggregate-pack
+slice-aggregate-pack c = sym (length-take-le _ _ (c .before .before .if1 .left))
+
+pack-requires : tie.Need-pack-requires
+pack-requires c κs = search needs
+
+answer-agrees-requires : tie.Need-answer-agrees-requires
+answer-agrees-requires c κs = search needs
+
+output-agrees-requires : tie.Need-output-agrees-requires
+output-agrees-requires c κs = search needs
+
+returns-2 : tie.Need-returns-2
+returns-2 c = search needs
+
+pub pack-agrees-spec : {M : Type 1} → statement M
+pack-agrees-spec =
+    tie.close
+    (tie.spec
+    array-read-room
+    cast-room
+    returns
+    set-of-requires
+    array-read-pack
+    array-borrow-prefix-out
+    slice-aggregate-pack
+    pack-requires
+    answer-agrees-requires
+    output-agrees-requires
+    returns-2)
