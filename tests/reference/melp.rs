@@ -1,0 +1,627 @@
+//! Reference reading of the MELP frame paper (01-scope.md): slow, plain, section by section.
+//! Bits are u8 values 0 or 1; lists of bits run most significant first.
+
+/// Refusal numbers that the calls here can give (section "Refusals by place").
+#[derive(Clone, Copy, Debug, PartialEq, Eq)]
+pub enum Refusal {
+    Output = 1,
+    FrameLength = 2,
+    Padding = 3,
+    Record = 4,
+    Parameter = 5,
+}
+
+impl Refusal {
+    /// The number in the table of refusals.
+    pub fn number(self) -> u8 {
+        self as u8
+    }
+}
+
+/// What only a voiced set has (section "Parameter sets").
+#[derive(Clone, Copy, Debug, PartialEq, Eq)]
+pub struct Voicing {
+    pub pitch: u8,
+    pub bandpass: u8,
+    pub fourier: u8,
+    pub aperiodic: u8,
+}
+
+/// A parameter set; without voicing it is an unvoiced one (section "Parameter sets").
+#[derive(Clone, Copy, Debug, PartialEq, Eq)]
+pub struct Set {
+    pub lsf: [u8; 4],
+    pub g2: u8,
+    pub g1: u8,
+    pub voicing: Option<Voicing>,
+}
+
+/// Class of a pitch code; voiced carries the index (section "Pitch code").
+#[derive(Clone, Copy, Debug, PartialEq, Eq)]
+pub enum PitchClass {
+    Unvoiced,
+    Erased,
+    Voiced(u8),
+}
+
+/// What a received word yields (section "The four words").
+#[derive(Clone, Debug, PartialEq, Eq)]
+pub enum WordReading {
+    Erased,
+    Data { data: Vec<u8>, repaired: u8 },
+}
+
+/// What the bits of one frame say, before any record is looked at (section "Receiver").
+#[derive(Clone, Copy, Debug, PartialEq, Eq)]
+pub enum Content {
+    Erased,
+    Accepted { set: Set, repaired: u8 },
+}
+
+/// One frame read: its content and its sync bit.
+#[derive(Clone, Copy, Debug, PartialEq, Eq)]
+pub struct FrameReading {
+    pub content: Content,
+    pub sync: u8,
+}
+
+/// Kind of a result (section "Receiver").
+#[derive(Clone, Copy, Debug, PartialEq, Eq)]
+pub enum Kind {
+    Unvoiced,
+    Voiced,
+    Repeat,
+}
+
+/// Result of one received frame (section "Receiver").
+#[derive(Clone, Copy, Debug, PartialEq, Eq)]
+pub struct Heard {
+    pub kind: Kind,
+    pub set: Set,
+    pub first_level: i32,
+    pub second_level: i32,
+    pub mute: u8,
+    pub sync: u8,
+    pub repaired: u8,
+}
+
+/// Receiver record; `repeats` tells which of the latest 16 frames were repeats, oldest first.
+#[derive(Clone, Copy, Debug, PartialEq, Eq)]
+pub struct Record {
+    pub last_set: Set,
+    pub last_g2: u8,
+    pub repeats: [bool; 16],
+}
+
+// ---- Numbers and bits ----
+
+/// Bit n of a value, bit 0 the least significant.
+fn bit(value: u8, n: u32) -> u8 {
+    (value >> n) & 1
+}
+
+/// The lowest `count` bits of a value, most significant first.
+pub fn bits_of(value: u8, count: u32) -> Vec<u8> {
+    (0..count).rev().map(|n| bit(value, n)).collect()
+}
+
+/// The number that a list of bits spells, most significant first.
+pub fn number_of(bits: &[u8]) -> u8 {
+    bits.iter().fold(0, |number, b| number * 2 + b)
+}
+
+/// How many ones a list of bits has.
+fn ones(bits: &[u8]) -> usize {
+    bits.iter().filter(|b| **b == 1).count()
+}
+
+// ---- Pitch code (5.3.1, section "Pitch code") ----
+
+/// Whether a pitch code means a voiced frame.
+fn is_voiced_code(code: u8) -> bool {
+    ones(&bits_of(code, 7)) >= 3
+}
+
+/// Class of a pitch code; a code of more than seven bits is refused.
+pub fn pitch_class(code: u8) -> Result<PitchClass, Refusal> {
+    if code > 127 {
+        return Err(Refusal::Parameter);
+    }
+    match ones(&bits_of(code, 7)) {
+        0 | 1 => Ok(PitchClass::Unvoiced),
+        2 => Ok(PitchClass::Erased),
+        _ => {
+            let smaller = (0..code).filter(|c| is_voiced_code(*c)).count();
+            Ok(PitchClass::Voiced(smaller as u8))
+        }
+    }
+}
+
+/// Code of a pitch index, found by trying every code.
+pub fn pitch_code(index: u8) -> Result<u8, Refusal> {
+    (0..=127)
+        .find(|code| pitch_class(*code) == Ok(PitchClass::Voiced(index)))
+        .ok_or(Refusal::Parameter)
+}
+
+// ---- The four words (5.4, section "The four words") ----
+
+/// Row i tells which of u0..u3 are summed into parity bit i.
+const EQUATIONS: [[u8; 4]; 4] = [[1, 1, 0, 1], [1, 0, 1, 1], [0, 1, 1, 1], [1, 1, 1, 0]];
+
+/// Data bits sent in a word of 6, 7 or 8 bits; the six-bit word leaves out its spare.
+pub fn data_count(length: usize) -> usize {
+    match length {
+        6 => 3,
+        7 | 8 => 4,
+        _ => panic!("no word has {} bits", length),
+    }
+}
+
+/// Parity bits of a word of 6, 7 or 8 bits.
+pub fn parity_count(length: usize) -> usize {
+    length - data_count(length)
+}
+
+/// Parity bits of the data bits sent; a spare counts as 0.
+pub fn parity(length: usize, data: &[u8]) -> Vec<u8> {
+    let mut u = [0; 4];
+    u[..data_count(length)].copy_from_slice(data);
+    let sum = |row: &[u8; 4]| (0..4).map(|k| row[k] * u[k]).sum::<u8>() % 2;
+    EQUATIONS[..parity_count(length)].iter().map(sum).collect()
+}
+
+/// The whole word: data sent, then parity.
+pub fn encode_word(length: usize, data: &[u8]) -> Vec<u8> {
+    let mut word = data.to_vec();
+    word.extend(parity(length, data));
+    word
+}
+
+/// Column of a sent bit: the syndrome when that bit alone is wrong.
+fn column(length: usize, position: usize) -> Vec<u8> {
+    let data = data_count(length);
+    let entry = |row: usize| {
+        if position < data {
+            EQUATIONS[row][position]
+        } else {
+            u8::from(row == position - data)
+        }
+    };
+    (0..parity_count(length)).map(entry).collect()
+}
+
+/// Received parity plus the parity of the received data.
+fn syndrome(length: usize, word: &[u8]) -> Vec<u8> {
+    let (data, received) = word.split_at(data_count(length));
+    let computed = parity(length, data);
+    received
+        .iter()
+        .zip(&computed)
+        .map(|(r, c)| (r + c) % 2)
+        .collect()
+}
+
+/// A word's data with the count of repairs.
+fn word_data(length: usize, word: &[u8], repaired: u8) -> WordReading {
+    WordReading::Data {
+        data: word[..data_count(length)].to_vec(),
+        repaired,
+    }
+}
+
+/// Read a received word: let it stand, erase it or flip one bit back.
+pub fn decode_word(length: usize, word: &[u8]) -> WordReading {
+    assert_eq!(word.len(), length);
+    let syndrome = syndrome(length, word);
+    if ones(&syndrome) == 0 {
+        return word_data(length, word, 0);
+    }
+    if length == 8 && ones(&syndrome) % 2 == 0 {
+        return WordReading::Erased;
+    }
+    match (0..length).find(|p| column(length, *p) == syndrome) {
+        Some(position) => {
+            let mut mended = word.to_vec();
+            mended[position] = 1 - mended[position];
+            word_data(length, &mended, 1)
+        }
+        // Only the spare's column in the six-bit word is left.
+        None => word_data(length, word, 0),
+    }
+}
+
+// ---- Gain levels (5.3.3, section "Gain levels") ----
+
+/// Lowest and highest level that the choice of codes takes, in grains.
+pub const LEVEL_RANGE: (i32, i32) = (-18600, 37200);
+
+/// Level of G2 in grains.
+pub fn level(g2: u8) -> Result<i32, Refusal> {
+    if g2 > 31 {
+        return Err(Refusal::Parameter);
+    }
+    Ok(1860 + 402 * i32::from(g2))
+}
+
+/// First level from G2, the first gain code and the G2 accepted before.
+pub fn first_level(g2: u8, code: u8, q: u8) -> Result<i32, Refusal> {
+    if code > 7 {
+        return Err(Refusal::Parameter);
+    }
+    let (now, before) = (level(g2)?, level(q)?);
+    if code == 0 {
+        return Ok((now + before) / 2);
+    }
+    let step = 67 * i32::from(g2.abs_diff(q)) + 372;
+    Ok(now.min(before) - 1116 + (i32::from(code) - 1) * step)
+}
+
+/// Index of the nearest of rising levels; of two equally near the lower.
+fn nearest(levels: &[i32], value: i32) -> u8 {
+    let mut best = 0;
+    for (index, level) in levels.iter().enumerate() {
+        if (level - value).abs() < (levels[best] - value).abs() {
+            best = index;
+        }
+    }
+    best as u8
+}
+
+/// Whether a level may be given to the choice of codes.
+fn level_in_range(value: i32) -> bool {
+    (LEVEL_RANGE.0..=LEVEL_RANGE.1).contains(&value)
+}
+
+/// Choose G2 and G1 from both levels and the G2 accepted before.
+pub fn choose(first: i32, second: i32, q: u8) -> Result<(u8, u8), Refusal> {
+    if !level_in_range(first) || !level_in_range(second) || q > 31 {
+        return Err(Refusal::Parameter);
+    }
+    let second_levels = (0..=31).map(level).collect::<Result<Vec<i32>, Refusal>>()?;
+    let g2 = nearest(&second_levels, second);
+    let mean = first_level(g2, 0, q)?;
+    if g2.abs_diff(q) <= 2 && (first - mean).abs() <= 558 {
+        return Ok((g2, 0));
+    }
+    let seven = (1..=7)
+        .map(|c| first_level(g2, c, q))
+        .collect::<Result<Vec<i32>, Refusal>>()?;
+    Ok((g2, 1 + nearest(&seven, first)))
+}
+
+// ---- Range tests (sections "Parameter sets" and "Receiver") ----
+
+/// Whether each field of a set is in its range, B = 1 let through.
+fn set_in_range(set: &Set) -> bool {
+    let [l1, l2, l3, l4] = set.lsf;
+    let common = l1 <= 127 && l2 <= 63 && l3 <= 63 && l4 <= 63 && set.g2 <= 31 && set.g1 <= 7;
+    let own = match set.voicing {
+        None => true,
+        Some(v) => v.pitch <= 98 && v.bandpass <= 15 && v.aperiodic <= 1,
+    };
+    common && own
+}
+
+/// Whether the sender takes a set; B = 1 is not valid there (5.3.2).
+pub fn sender_takes(set: &Set) -> bool {
+    set_in_range(set) && !matches!(set.voicing, Some(Voicing { bandpass: 1, .. }))
+}
+
+/// Whether every field of a receiver record is in range; B = 1 is.
+pub fn record_in_range(record: &Record) -> bool {
+    set_in_range(&record.last_set) && record.last_g2 <= 31
+}
+
+// ---- Order of the bits (section "Order of the bits") ----
+
+/// Place in the frame of a logical bit.
+pub fn place_of(logical: usize) -> usize {
+    7 * logical % 54
+}
+
+/// Data bits of words A, B, C and D.
+fn word_data_bits(set: &Set) -> [Vec<u8>; 4] {
+    let (l1, g2, g1) = (set.lsf[0], set.g2, set.g1);
+    [
+        vec![bit(l1, 6), bit(l1, 5), bit(l1, 4), bit(l1, 3)],
+        vec![bit(l1, 2), bit(l1, 1), bit(l1, 0)],
+        vec![bit(g2, 4), bit(g2, 3), bit(g2, 2), bit(g2, 1)],
+        vec![bit(g2, 0), bit(g1, 2), bit(g1, 1), bit(g1, 0)],
+    ]
+}
+
+/// Lengths of words A, B, C and D.
+const WORD_LENGTHS: [usize; 4] = [8, 6, 7, 7];
+
+/// What stands in the parity places of A to D in a voiced frame.
+fn voicing_bits(v: &Voicing) -> [Vec<u8>; 4] {
+    [
+        vec![
+            bit(v.bandpass, 3),
+            bit(v.bandpass, 2),
+            bit(v.bandpass, 1),
+            bit(v.bandpass, 0),
+        ],
+        vec![bit(v.fourier, 7), bit(v.fourier, 6), bit(v.fourier, 5)],
+        vec![bit(v.fourier, 4), bit(v.fourier, 3), bit(v.fourier, 2)],
+        vec![bit(v.fourier, 1), bit(v.fourier, 0), v.aperiodic],
+    ]
+}
+
+/// Words A to D of a set as sent.
+fn words_of(set: &Set) -> Vec<Vec<u8>> {
+    let data = word_data_bits(set);
+    match set.voicing {
+        None => (0..4)
+            .map(|w| encode_word(WORD_LENGTHS[w], &data[w]))
+            .collect(),
+        Some(v) => {
+            let carried = voicing_bits(&v);
+            (0..4)
+                .map(|w| [data[w].clone(), carried[w].clone()].concat())
+                .collect()
+        }
+    }
+}
+
+/// Pitch code that a set is sent with; unvoiced sends no ones.
+fn sent_pitch_code(set: &Set) -> Result<u8, Refusal> {
+    match set.voicing {
+        None => Ok(0x00),
+        Some(v) => pitch_code(v.pitch),
+    }
+}
+
+/// The 54 bits of a frame by logical number.
+fn logical_bits(set: &Set, sync: u8) -> Result<[u8; 54], Refusal> {
+    let mut list = words_of(set).concat();
+    list.extend(bits_of(sent_pitch_code(set)?, 7));
+    list.extend(bits_of(set.lsf[1], 6));
+    list.extend(bits_of(set.lsf[2], 6));
+    list.extend(bits_of(set.lsf[3], 6));
+    list.push(sync);
+    let mut logical = [0; 54];
+    logical.copy_from_slice(&list);
+    Ok(logical)
+}
+
+/// Bits by logical number to bits by place.
+fn to_places(logical: &[u8; 54]) -> [u8; 54] {
+    let mut places = [0; 54];
+    for j in 0..54 {
+        places[place_of(j)] = logical[j];
+    }
+    places
+}
+
+/// Bits by place to bits by logical number.
+fn from_places(places: &[u8; 54]) -> [u8; 54] {
+    let mut logical = [0; 54];
+    for j in 0..54 {
+        logical[j] = places[place_of(j)];
+    }
+    logical
+}
+
+/// Bits by place to the seven bytes, the last two bits 0.
+fn to_bytes(places: &[u8; 54]) -> [u8; 7] {
+    let mut bytes = [0; 7];
+    for t in 0..54 {
+        bytes[t / 8] |= places[t] << (7 - t % 8);
+    }
+    bytes
+}
+
+/// The seven bytes to bits by place.
+fn from_bytes(bytes: &[u8; 7]) -> [u8; 54] {
+    let mut places = [0; 54];
+    for t in 0..54 {
+        places[t] = (bytes[t / 8] >> (7 - t % 8)) & 1;
+    }
+    places
+}
+
+/// Change one place of a frame, as the channel may.
+pub fn flip(frame: &mut [u8; 7], place: usize) {
+    frame[place / 8] ^= 1 << (7 - place % 8);
+}
+
+/// Pack a set with the sender's sync bit: the frame and the next sync bit.
+pub fn pack(set: &Set, sync: u8, output_length: usize) -> Result<([u8; 7], u8), Refusal> {
+    if output_length < 7 {
+        return Err(Refusal::Output);
+    }
+    if sync > 1 {
+        return Err(Refusal::Record);
+    }
+    if !sender_takes(set) {
+        return Err(Refusal::Parameter);
+    }
+    let logical = logical_bits(set, sync)?;
+    Ok((to_bytes(&to_places(&logical)), 1 - sync))
+}
+
+// ---- Reading a frame (section "Receiver") ----
+
+/// L1, G2 and G1 from the data bits of words A to D.
+fn protected_fields(data: &[Vec<u8>]) -> (u8, u8, u8) {
+    let l1 = number_of(&[&data[0][..], &data[1][..]].concat());
+    let g2 = number_of(&[&data[2][..], &data[3][..1]].concat());
+    let g1 = number_of(&data[3][1..4]);
+    (l1, g2, g1)
+}
+
+/// The four words of a received frame.
+fn received_words(logical: &[u8; 54]) -> [&[u8]; 4] {
+    [
+        &logical[0..8],
+        &logical[8..14],
+        &logical[14..21],
+        &logical[21..28],
+    ]
+}
+
+/// A set from the words' data bits and the bits outside the words.
+fn assemble(data: &[Vec<u8>], logical: &[u8; 54], voicing: Option<Voicing>) -> Set {
+    let (l1, g2, g1) = protected_fields(data);
+    let l2 = number_of(&logical[35..41]);
+    let l3 = number_of(&logical[41..47]);
+    let l4 = number_of(&logical[47..53]);
+    Set {
+        lsf: [l1, l2, l3, l4],
+        g2,
+        g1,
+        voicing,
+    }
+}
+
+/// Read a frame with a voiced pitch code: no word is checked.
+fn read_voiced(logical: &[u8; 54], pitch: u8) -> Content {
+    let words = received_words(logical);
+    let cut = |w: usize| words[w].split_at(data_count(WORD_LENGTHS[w]));
+    let data: Vec<Vec<u8>> = (0..4).map(|w| cut(w).0.to_vec()).collect();
+    let bandpass = number_of(cut(0).1);
+    let fourier = number_of(&[cut(1).1, cut(2).1, &cut(3).1[..2]].concat());
+    let aperiodic = cut(3).1[2];
+    let voicing = Voicing {
+        pitch,
+        bandpass,
+        fourier,
+        aperiodic,
+    };
+    Content::Accepted {
+        set: assemble(&data, logical, Some(voicing)),
+        repaired: 0,
+    }
+}
+
+/// Read a frame with an unvoiced pitch code: check A, repair all four words.
+fn read_unvoiced(logical: &[u8; 54]) -> Content {
+    let mut repaired = ones(&logical[28..35]) as u8;
+    let mut data = Vec::new();
+    for word in received_words(logical) {
+        match decode_word(word.len(), word) {
+            WordReading::Erased => return Content::Erased,
+            WordReading::Data {
+                data: bits,
+                repaired: count,
+            } => {
+                data.push(bits);
+                repaired += count;
+            }
+        }
+    }
+    Content::Accepted {
+        set: assemble(&data, logical, None),
+        repaired,
+    }
+}
+
+/// Read a frame's bytes: refuse 2 or 3, else classify the pitch code and read on.
+pub fn read(bytes: &[u8]) -> Result<FrameReading, Refusal> {
+    if bytes.len() != 7 {
+        return Err(Refusal::FrameLength);
+    }
+    let mut frame = [0; 7];
+    frame.copy_from_slice(bytes);
+    if frame[6] & 0b11 != 0 {
+        return Err(Refusal::Padding);
+    }
+    let logical = from_places(&from_bytes(&frame));
+    let content = match pitch_class(number_of(&logical[28..35]))? {
+        PitchClass::Erased => Content::Erased,
+        PitchClass::Voiced(pitch) => read_voiced(&logical, pitch),
+        PitchClass::Unvoiced => read_unvoiced(&logical),
+    };
+    Ok(FrameReading {
+        content,
+        sync: logical[53],
+    })
+}
+
+// ---- Receiver (section "Receiver") ----
+
+/// The record of a receiver that has heard nothing.
+pub fn fresh_record() -> Record {
+    let last_set = Set {
+        lsf: [0; 4],
+        g2: 0,
+        g1: 0,
+        voicing: None,
+    };
+    Record {
+        last_set,
+        last_g2: 0,
+        repeats: [false; 16],
+    }
+}
+
+/// The latest 16 kinds after one more: the oldest goes out.
+fn push_kind(repeats: &[bool; 16], repeat: bool) -> [bool; 16] {
+    let mut next = [repeat; 16];
+    next[..15].copy_from_slice(&repeats[1..]);
+    next
+}
+
+/// Mute bit of the latest 16 kinds.
+fn mute_of(repeats: &[bool; 16]) -> u8 {
+    u8::from(repeats.iter().filter(|r| **r).count() >= 8)
+}
+
+/// Result and next record of an erased frame.
+fn repeat(record: &Record, sync: u8) -> Result<(Heard, Record), Refusal> {
+    let last = level(record.last_g2)?;
+    let next = Record {
+        repeats: push_kind(&record.repeats, true),
+        ..*record
+    };
+    let heard = Heard {
+        kind: Kind::Repeat,
+        set: record.last_set,
+        first_level: last,
+        second_level: last,
+        mute: mute_of(&next.repeats),
+        sync,
+        repaired: 0,
+    };
+    Ok((heard, next))
+}
+
+/// Result and next record of an accepted frame.
+fn accept(record: &Record, set: Set, repaired: u8, sync: u8) -> Result<(Heard, Record), Refusal> {
+    let repeats = push_kind(&record.repeats, false);
+    let heard = Heard {
+        kind: if set.voicing.is_some() {
+            Kind::Voiced
+        } else {
+            Kind::Unvoiced
+        },
+        set,
+        first_level: first_level(set.g2, set.g1, record.last_g2)?,
+        second_level: level(set.g2)?,
+        mute: mute_of(&repeats),
+        sync,
+        repaired,
+    };
+    Ok((
+        heard,
+        Record {
+            last_set: set,
+            last_g2: set.g2,
+            repeats,
+        },
+    ))
+}
+
+/// Receive one frame: refuse 2, 3 or 4, else the result and the next record.
+pub fn receive(record: &Record, bytes: &[u8]) -> Result<(Heard, Record), Refusal> {
+    let frame = read(bytes)?;
+    if !record_in_range(record) {
+        return Err(Refusal::Record);
+    }
+    match frame.content {
+        Content::Erased => repeat(record, frame.sync),
+        Content::Accepted { set, repaired } => accept(record, set, repaired, frame.sync),
+    }
+}
