@@ -1,4 +1,4 @@
-//! Test vectors from the reference reading: `vectors N SEED`, or `vectors selftest`.
+//! Vectors of the independent implementation: `vectors N SEED`, or `vectors selftest`.
 
 mod melp;
 
@@ -6,7 +6,7 @@ use melp::{PitchClass, Refusal, Set, Voicing, WordReading};
 use std::io::Write;
 use std::process::ExitCode;
 
-/// One record of the output; the layout is in README.txt.
+/// One record of the output; the layout is in README.md.
 type Vector = [u8; 32];
 
 // ---- Pseudo-random numbers ----
@@ -433,15 +433,6 @@ const EXAMPLE_SET: Set = Set {
     voicing: None,
 };
 
-/// The example frame with some places changed.
-fn flipped(places: &[usize]) -> [u8; 7] {
-    let mut frame = EXAMPLE_FRAME;
-    places
-        .iter()
-        .for_each(|place| melp::flip(&mut frame, *place));
-    frame
-}
-
 /// Example 1: pitch codes.
 fn example_1() -> bool {
     let classes = [
@@ -501,61 +492,20 @@ fn example_5() -> bool {
     g2(2061) == Ok(0) && g2(2062) == Ok(1)
 }
 
-/// Example 6: a frame packed by a fresh sender, and its line in section "Program hear".
+/// Example 6: a frame packed by a fresh sender.
 fn example_6() -> bool {
-    let heard = melp::receive(&melp::fresh_record(), &EXAMPLE_FRAME);
-    let expected = melp::Heard {
-        kind: melp::Kind::Unvoiced,
-        set: EXAMPLE_SET,
-        first_level: 4071,
-        second_level: 6282,
-        mute: 0,
-        sync: 0,
-        repaired: 0,
-    };
     melp::pack(&EXAMPLE_SET, 0, 7) == Ok((EXAMPLE_FRAME, 1))
-        && heard.map(|(result, _)| result) == Ok(expected)
-}
-
-/// Example 7: two repairs, and two flips in word A.
-fn example_7() -> bool {
-    let hear = |places: &[usize]| melp::receive(&melp::fresh_record(), &flipped(places));
-    let repaired = hear(&[0, 6]).map(|(h, _)| (h.kind, h.set, h.repaired));
-    let erased = hear(&[0, 7]).map(|(h, _)| (h.kind, h.repaired));
-    repaired == Ok((melp::Kind::Unvoiced, EXAMPLE_SET, 2)) && erased == Ok((melp::Kind::Repeat, 0))
-}
-
-/// Mute bits of so many copies of a frame, heard from fresh.
-fn mutes(frame: &[u8], count: usize) -> Result<Vec<u8>, Refusal> {
-    let mut record = melp::fresh_record();
-    let mut bits = Vec::new();
-    for _ in 0..count {
-        let (heard, next) = melp::receive(&record, frame)?;
-        bits.push(heard.mute);
-        record = next;
-    }
-    Ok(bits)
-}
-
-/// Example 9: eight erased frames, erased by the pitch code or by word A.
-fn example_9() -> bool {
-    let by_pitch = flipped(&[melp::place_of(28), melp::place_of(29)]);
-    let by_word = flipped(&[0, 7]);
-    let expected = Ok(vec![0, 0, 0, 0, 0, 0, 0, 1]);
-    mutes(&by_pitch, 8) == expected && mutes(&by_word, 8) == expected
 }
 
 /// Number of the first example that fails, if any does.
 fn first_failure() -> Option<u8> {
-    let examples: [(u8, fn() -> bool); 8] = [
+    let examples: [(u8, fn() -> bool); 6] = [
         (1, example_1),
         (2, example_2),
         (3, example_3),
         (4, example_4),
         (5, example_5),
         (6, example_6),
-        (7, example_7),
-        (9, example_9),
     ];
     examples
         .iter()
