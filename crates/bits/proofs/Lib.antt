@@ -2,4 +2,5 @@ pub mod Every
 pub mod Patterns
 pub mod Count
 pub mod Value
+pub mod Digits
 pub mod Cut

@@ -15,8 +15,6 @@ use Rattle.hamming.specs.Word.{decode}
 use Rattle.hamming.specs.declared.Decoded.{Decoded}
 use Rattle.hamming.specs.declared.Decoded.the-variants as word
 use Rattle.frame.specs.Reads.{pitchBits, indicesOf, voicingOf, pitchRepaired, fromWords, byClass, read}
-use Rattle.frame.specs.declared.Indices.{Indices}
-use Rattle.frame.specs.declared.Voicing.{Voicing}
 use Rattle.frame.specs.declared.ParameterSet.the-variants.{Unvoiced, Voiced}
 use Rattle.frame.specs.declared.Reading.the-variants.{Accepted}
 

@@ -1,14 +1,14 @@
 -- The indices that share words: L1 in A and B, G2 in C and D, G1 in D. Their bits are numbers again.
 -- Assumes nothing.
 use mathlib.Core.Path.{_≡_, refl, sym, ap, ap₂, _∙_}
-use mathlib.Core.Bool.{Bool}
-use mathlib.Core.List.{List, [], _∷_, _++_}
-use Prim.Native.Nat.{ℕ, _+_, _*_, _/_, _%_, _^_, _<_}
+use mathlib.Core.List.{[], _∷_}
+use Prim.Native.Nat.{ℕ, _+_, _*_, _/_, _%_, _<_}
 use native.Mathlib.Nat.{div-one}
 use native.Mathlib.Omega.{arith}
 use lib.Pow.{high, low}
 use Rattle.bits.specs.Bits.{bitNum, value, bit, bits}
-use Rattle.bits.proofs.Value.{value-append, value-bits, value-bits-mod, bits-value, bit-is, value-lt-at, take-bits}
+use Rattle.bits.proofs.Value.{value-append, value-lt-at}
+use Rattle.bits.proofs.Digits.{value-bits, value-bits-mod, bits-value, bit-is, take-bits}
 use Rattle.frame.specs.Layout.{dataA, dataB, dataC, dataD}
 use Rattle.frame.specs.declared.Indices.{Indices}
 

@@ -1,13 +1,13 @@
 -- The logical bits of a set as one number, part by part.
 -- Assumes nothing.
-use mathlib.Core.Path.{_≡_, refl, sym, ap, ap₂, _∙_}
+use mathlib.Core.Path.{_≡_, refl, sym, ap, _∙_}
 use mathlib.Core.Bool.{Bool}
 use mathlib.Core.List.{List, [], _∷_, _++_}
 use Prim.Native.Nat.{ℕ, _+_, _*_, _/_, _%_, _^_, _<_}
-use native.Mathlib.Nat.{mod-eq-of-lt}
 use native.Mathlib.Omega.{arith}
 use Rattle.bits.specs.Bits.{bitNum, value, bit, bits}
-use Rattle.bits.proofs.Value.{value-join, value-bits, value-bits-mod, bits-value, bits-mod, take-bits}
+use Rattle.bits.proofs.Value.{value-join}
+use Rattle.bits.proofs.Digits.{value-bits, value-bits-mod, bits-value, bits-mod, take-bits}
 use Rattle.hamming.specs.Word.{parityOf}
 use Rattle.frame.specs.Layout.{dataA, dataB, dataC, dataD, words, unvoicedWords, voicedWords, others}
 use Rattle.frame.specs.declared.Indices.{Indices}

@@ -1,15 +1,15 @@
 -- The laws of frames in any order: a packed set returns as itself, and flips of places act as flips of logical bits.
 -- Assumes nothing.
-use mathlib.Core.Path.{_≡_, ap, _∙_, subst⁻¹}
+use mathlib.Core.Path.{_≡_, _∙_, subst⁻¹}
 use mathlib.Core.Bool.{Bool}
 use mathlib.Core.List.{List}
 use Prim.Native.Nat.{ℕ, _≤_, _<_}
 use native.Mathlib.Omega.{arith}
 use lib.Dec.{T}
-use Rattle.bits.specs.Bits.{ones, value, cut}
+use Rattle.bits.specs.Bits.{ones, cut}
 use Rattle.order.specs.Order.{Order, placeOf, logicalBit, through}
 use Rattle.order.proofs.Frames.{sent-bit, received-bit}
-use Rattle.frame.specs.Sets.{inRange, sendable}
+use Rattle.frame.specs.Sets.{sendable}
 use Rattle.frame.specs.Layout.{logicalOf, frame}
 use Rattle.frame.specs.Reads.{read}
 use Rattle.frame.specs.Damage.{damaged, Correctable, protectedFlips}
@@ -19,8 +19,9 @@ use Rattle.frame.specs.declared.ParameterSet.{ParameterSet}
 use Rattle.frame.specs.declared.ParameterSet.the-variants.{Unvoiced, Voiced}
 use Rattle.frame.specs.declared.Reading.{Reading}
 use Rattle.frame.specs.declared.Reading.the-variants.{Accepted, Erased}
-use Rattle.frame.proofs.Ranges.{IndexRanges, index-ranges, sendable-fits}
-use Rattle.frame.proofs.Repaired.{seen, correctable-read, double-read, voicedOrErased, voiced-read}
+use Rattle.frame.proofs.Ranges.{index-ranges, sendable-fits}
+use Rattle.frame.proofs.Repaired.{seen, correctable-read, double-read}
+use Rattle.frame.proofs.Kept.{voicedOrErased, voiced-read}
 use Rattle.frame.proofs.Returned.{read-back}
 use Rattle.frame.proofs.Extent.{read-ext}
 

@@ -7,7 +7,7 @@ use Prim.Native.Nat.{ℕ, _≤_, _<_}
 use lib.ListN.{length, getD, drop}
 use borrow.Author.Tests.{lt-ltb, le-ltb}
 use Rattle.bits.specs.Bits.{value, bits}
-use Rattle.bits.proofs.Value.{bits-value}
+use Rattle.bits.proofs.Digits.{bits-value}
 use Rattle.order.specs.Order.{defaultOrder, frameOf}
 use Rattle.order.specs.Word.{wordBit}
 use Rattle.frame.specs.Sets.{sendable}

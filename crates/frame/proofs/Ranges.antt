@@ -1,7 +1,7 @@
 -- The range tests, index by index.
 -- Assumes nothing.
-use mathlib.Core.Bool.{Bool, not, _&&_}
-use Prim.Native.Nat.{ℕ, _<_}
+use mathlib.Core.Bool.{not, _&&_}
+use Prim.Native.Nat.{_<_}
 use lib.Dec.{T, ltb, eqb, ltb→lt}
 use Rattle.bits.proofs.Every.{and-left, and-right}
 use Rattle.frame.specs.Sets.{indicesFit, voicingFits, inRange, sendable}

@@ -1,29 +1,25 @@
--- An unvoiced frame with correctable flips is read as sent in L1, G2 and G1, and its flips are counted; two flips in word A erase it; a voiced one stays voiced or is erased.
+-- An unvoiced frame with correctable flips is read as sent in L1, G2 and G1, and its flips are counted; two flips in word A erase it.
 -- Assumes nothing.
-use mathlib.Core.Path.{_≡_, refl, sym, ap, _∙_, subst}
-use mathlib.Core.Bool.{Bool, true, false, cond}
-use mathlib.Core.List.{List, [], _∷_, _++_}
-use Prim.Native.Nat.{ℕ, zero, suc, _+_, _*_, _/_, _%_, _≤_, _<_}
+use mathlib.Core.Path.{_≡_, refl, sym, ap, _∙_}
+use mathlib.Core.Bool.{Bool, cond}
+use mathlib.Core.List.{List, _++_}
+use Prim.Native.Nat.{ℕ, zero, suc, _+_, _≤_}
 use native.Mathlib.Omega.{arith}
-use lib.Dec.{T, eqb, lit≤}
-use Rattle.bits.specs.Bits.{_⊕_, ones, value, bits, cut}
+use lib.Dec.{eqb, lit≤}
+use Rattle.bits.specs.Bits.{ones, value, cut}
 use Rattle.bits.proofs.Count.{ones-append}
-use Rattle.pitch.specs.Pitch.{classOf, codeOf, unvoicedCode}
-use Rattle.pitch.specs.declared.PitchClass.{PitchClass}
+use Rattle.pitch.specs.Pitch.{classOf}
 use Rattle.pitch.specs.declared.PitchClass.the-variants as class
-use Rattle.pitch.proofs.Damage.{unvoiced-stays, unvoiced-ones, notUnvoiced, voiced-keeps}
+use Rattle.pitch.proofs.Damage.{unvoiced-stays, unvoiced-ones}
 use Rattle.hamming.specs.Word.{decode}
 use Rattle.hamming.specs.declared.Decoded.{Decoded}
 use Rattle.hamming.specs.declared.Decoded.the-variants as word
 use Rattle.hamming.proofs.Repairs.{repair, double-erases}
-use Rattle.frame.specs.Layout.{dataA, dataB, dataC, dataD, words, others, unvoicedWords, voicedWords, logical, logicalOf}
-use Rattle.frame.specs.Reads.{pitchBits, indicesOf, pitchRepaired, fromWords, byClass, read}
+use Rattle.frame.specs.Layout.{dataA, dataB, dataC, dataD, words, others, unvoicedWords, logical, logicalOf}
+use Rattle.frame.specs.Reads.{pitchBits, pitchRepaired, fromWords, byClass, read}
 use Rattle.frame.specs.Damage.{damaged, Correctable, protectedFlips}
 use Rattle.frame.specs.declared.Indices.{Indices}
-use Rattle.frame.specs.declared.Voicing.{Voicing}
-use Rattle.frame.specs.declared.ParameterSet.{ParameterSet}
-use Rattle.frame.specs.declared.ParameterSet.the-variants.{Unvoiced, Voiced}
-use Rattle.frame.specs.declared.Reading.{Reading}
+use Rattle.frame.specs.declared.ParameterSet.the-variants.{Unvoiced}
 use Rattle.frame.specs.declared.Reading.the-variants.{Accepted, Erased}
 use Rattle.frame.proofs.Ranges.{IndexRanges}
 use Rattle.frame.proofs.Fields.{l1-back, g2-back, g1-back}
@@ -90,21 +86,3 @@ module _ (x : Indices) (sync : Bool) (fl : ℕ → Bool) where
   double-read ha hp =
       ap (byClass got) (class-stays hp)
       ∙ ap (λ (r : Decoded). fromWords got r (decode 6 (cut got 8 6)) (decode 7 (cut got 14 7)) (decode 7 (cut got 21 7))) (double-erases (dataA x) (cut fl 0 8) refl refl ha)
-
--- read voiced, or erased
-abbrev pub voicedOrErased : Reading → Bool
-voicedOrErased (Accepted (Unvoiced x) k) = false
-voicedOrErased (Accepted (Voiced x v) k) = true
-voicedOrErased Erased = true
-
-by-class : (g : ℕ → Bool) (c : PitchClass) → T (notUnvoiced c) → T (voicedOrErased (byClass g c))
-by-class g class.Unvoiced t = absurd t
-by-class g class.Erased t = tt
-by-class g (class.Voiced i) t = tt
-
--- a voiced frame with at most one flip in its pitch code is read voiced or erased
-pub voiced-read : (x : Indices) (v : Voicing) (sync : Bool) (fl : ℕ → Bool) → v .pitch < 99 → ones (cut fl 28 7) ≤ 1 → T (voicedOrErased (read (damaged (logicalOf (Voiced x v) sync) fl)))
-unfolding words others voicedWords logical read
-voiced-read x v sync fl h f =
-    let g : ℕ → Bool = damaged (logicalOf (Voiced x v) sync) fl in
-    by-class g (classOf (pitchBits g)) (voiced-keeps (v .pitch) h (cut fl 28 7) refl f)

@@ -1,10 +1,10 @@
 -- A set in range comes back from its own logical bits.
 -- Assumes nothing.
-use mathlib.Core.Path.{_≡_, refl, ap, _∙_}
+use mathlib.Core.Path.{_≡_, ap, _∙_}
 use mathlib.Core.Bool.{Bool, false}
 use lib.Dec.{T, lit≤}
 use Rattle.bits.proofs.Every.{and-left, and-right}
-use Rattle.bits.proofs.Value.{value-bits}
+use Rattle.bits.proofs.Digits.{value-bits}
 use Rattle.pitch.proofs.Codes.{index-back}
 use Rattle.frame.specs.Sets.{indicesFit, voicingFits, inRange}
 use Rattle.frame.specs.Layout.{words, others, unvoicedWords, voicedWords, logical, logicalOf}

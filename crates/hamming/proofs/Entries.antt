@@ -1,7 +1,7 @@
 -- The table of tables is the rule at every entry, and an entry tells what the rule asks for.
 -- Assumes nothing.
-use mathlib.Core.Path.{_≡_, refl, ap}
-use mathlib.Core.Bool.{Bool, _&&_}
+use mathlib.Core.Path.{_≡_, refl}
+use mathlib.Core.Bool.{Bool}
 use mathlib.Core.List.{List, [], _∷_}
 use Prim.Native.Nat.{ℕ, _-_, _≤_, _<_}
 use native.Mathlib.Omega.{arith}
@@ -11,7 +11,7 @@ use Rattle.bits.specs.Bits.{bits, same}
 use Rattle.bits.proofs.Every.{every, every-at, and-left}
 use Rattle.hamming.specs.Word.{checkBits, column, Fix, stand, flip, erase, fixOf}
 use Rattle.hamming.specs.Table.{entryOf}
-use Rattle.hamming.proofs.Lengths.{lengths, lengths-at}
+use Rattle.hamming.proofs.Lengths.{lengths-at}
 use Rattle.hamming.proofs.Syndromes.{explains, every-syndrome}
 
 -- the code's table

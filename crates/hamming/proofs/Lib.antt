@@ -1,6 +1,7 @@
 pub mod Lengths
 pub mod Repairs
 pub mod Syndromes
+pub mod Sums
 pub mod Words
 pub mod Entries
 pub mod Parities

@@ -1,14 +1,13 @@
 -- The outcome of a word of n bits from the table's entry at its syndrome.
 -- Assumes nothing.
-use mathlib.Core.Path.{_≡_, refl, sym, ap, ap₂, _∙_}
+use mathlib.Core.Path.{_≡_, sym, ap, _∙_}
 use mathlib.Core.Bool.{Bool}
 use mathlib.Core.List.{List}
 use Prim.Native.Nat.{ℕ, _/_, _%_, _^_, _≤_, _<_}
 use lib.Bits.{bitXor, xor-lt}
 use Rattle.bits.specs.Bits.{value, bits}
-use Rattle.hamming.specs.Word.{checkBits, dataBits, parityOf, syndrome, flipAt, Fix, stand, flip, erase, fixOf, mend, decode}
+use Rattle.hamming.specs.Word.{checkBits, dataBits, parityOf, syndrome, flipAt, flip, fixOf, mend, decode}
 use Rattle.hamming.specs.Table.{entryOf}
-use Rattle.hamming.specs.declared.Decoded.{Decoded}
 use Rattle.hamming.specs.declared.Decoded.the-variants.{Read, Erased}
 use Rattle.hamming.proofs.Words.{expected, expected-lt, received-lt, syndrome-length, syndrome-is, data-value, data-flipped}
 use Rattle.hamming.proofs.Entries.{entry-erase, entry-stand, entry-flip}

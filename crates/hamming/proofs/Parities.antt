@@ -1,16 +1,16 @@
 -- The parity of a word, as a number made of sums of its data bits.
 -- Assumes nothing.
-use mathlib.Core.Path.{_≡_, refl, sym, ap, _∙_}
+use mathlib.Core.Path.{_≡_, ap, _∙_}
 use mathlib.Core.Bool.{Bool}
 use Prim.Native.Nat.{ℕ, _+_, _*_, _-_, _/_, _%_, _^_, _≤_, _<_}
 use native.Mathlib.Nat.{mod-lt}
-use lib.Dec.{T, eqb, eqb→eq}
+use lib.Dec.{eqb, eqb→eq}
 use lib.Pow.{pow-pos}
 use Rattle.bits.specs.Bits.{value, bits}
 use Rattle.bits.proofs.Every.{every, every-at, equal-at}
-use Rattle.bits.proofs.Value.{bits-mod}
+use Rattle.bits.proofs.Digits.{bits-mod}
 use Rattle.hamming.specs.Word.{checkBits, dataBits, parity, parityOf}
-use Rattle.hamming.proofs.Lengths.{lengths, lengths-at}
+use Rattle.hamming.proofs.Lengths.{lengths-at}
 
 -- the four parity bits of four data bits, as sums
 abbrev pub sums : ℕ → ℕ

@@ -14,7 +14,7 @@ use Rattle.bits.proofs.Patterns.{patterns, patterns-at, words, words-at}
 use Rattle.hamming.specs.Word.{dataBits, encode, fixOf, decode}
 use Rattle.hamming.specs.declared.Decoded.{Decoded}
 use Rattle.hamming.specs.declared.Decoded.the-variants.{Read, Erased}
-use Rattle.hamming.proofs.Lengths.{lengths, lengths-at}
+use Rattle.hamming.proofs.Lengths.{lengths-at}
 
 -- whether two readings are the same
 abbrev pub sameRead : Decoded → Decoded → Bool

@@ -10,7 +10,7 @@ use Rattle.bits.specs.Bits.{ones, same, cut}
 use Rattle.bits.proofs.Every.{every, every-at}
 use Rattle.bits.proofs.Patterns.{words, words-at}
 use Rattle.hamming.specs.Word.{checkBits, column, parityOf, Fix, stand, flip, erase, fixOf}
-use Rattle.hamming.proofs.Lengths.{lengths, lengths-at}
+use Rattle.hamming.proofs.Lengths.{lengths-at}
 
 -- the columns are those of the parity matrices of 5.4, then one for each parity bit
 pub columns-eight : cut (column 8) 0 8 ≡

@@ -1,49 +1,28 @@
--- A word of n bits as a number: its data are the quotient, its syndrome a sum of two numbers bit by bit, and one bit is flipped by one power of two.
+-- A word of n bits as a number: its data are the quotient, and its syndrome is an exclusive or.
 -- Assumes nothing.
 use mathlib.Core.Path.{_≡_, refl, sym, ap, ap₂, _∙_, subst}
 use mathlib.Core.Bool.{Bool}
 use mathlib.Core.List.{List, [], _∷_}
-use Prim.Native.Nat.{ℕ, zero, suc, _+_, _-_, _/_, _%_, _^_, _≤_, _<_, suc-le-suc}
+use Prim.Native.Nat.{ℕ, zero, suc, _+_, _/_, _%_, _^_, _≤_, _<_, suc-le-suc}
 use native.Mathlib.Nat.{mod-lt, lt-of-lt-of-le}
-use lib.Dec.{T, eqb, eqb→eq, leb, leb→le}
+use lib.Dec.{eqb, eqb→eq, leb, leb→le}
 use lib.Bits.{bitXor}
 use lib.ListN.{length, take, drop}
 use lib.Pow.{pow-pos, pow-mono, shr-lt}
-use Rattle.bits.specs.Bits.{_⊕_, value, bits, same}
+use Rattle.bits.specs.Bits.{_⊕_, value, bits}
 use Rattle.bits.proofs.Count.{length-⊕}
-use Rattle.bits.proofs.Every.{every, every-at}
-use Rattle.bits.proofs.Patterns.{same-eq, words, words-at}
-use Rattle.bits.proofs.Value.{value-bits, bits-value, bits-mod, take-bits, drop-bits, length-bits, value-lt-at}
+use Rattle.bits.proofs.Patterns.{words, words-at}
+use Rattle.bits.proofs.Value.{value-lt-at}
+use Rattle.bits.proofs.Digits.{value-bits, bits-value, bits-mod, take-bits, drop-bits, length-bits}
 use Rattle.hamming.specs.Word.{checkBits, dataBits, parityOf, dataOf, syndrome, flipAt}
-use Rattle.hamming.proofs.Lengths.{lengths, lengths-at}
+use Rattle.hamming.proofs.Sums.{xor-bits}
+use Rattle.hamming.proofs.Lengths.{lengths-at}
 
--- ---- sums bit by bit
-
-xorSame : ℕ → ℕ → ℕ → Bool
-xorSame k a b = same (bits k (bitXor a b)) (bits k a ⊕ bits k b)
-
--- the bits of an exclusive or of numbers below 16
-pub xor-bits : (k a b : ℕ) → k < 5 → a < 16 → b < 16 → bits k (bitXor a b) ≡ bits k a ⊕ bits k b
-unfolding xorSame
-xor-bits k a b hk ha hb = same-eq _ _ (every-at 16 (xorSame k a) (every-at 16 (λ a. every 16 (xorSame k a)) (every-at 5 (λ k. every 16 (λ a. every 16 (xorSame k a))) tt k hk) a ha) b hb)
-
-flipSame : ℕ → ℕ → ℕ → Bool
-flipSame n k w = eqb (bitXor w (2 ^ (n - 1 - k))) (value (flipAt k (bits n w)))
-
-allFlips : ℕ → Bool
-allFlips n = every n (λ k. every (2 ^ n) (flipSame n k))
-
--- one bit flipped is an exclusive or with its weight
-pub flip-is : (n k w : ℕ) → 6 ≤ n → n ≤ 8 → k < n → w < 2 ^ n → bitXor w (2 ^ (n - 1 - k)) ≡ value (flipAt k (bits n w))
-unfolding flipSame allFlips
-flip-is n k w l m hk hw = eqb→eq _ _ (every-at (2 ^ n) (flipSame n k) (every-at n (λ k. every (2 ^ n) (flipSame n k)) (lengths-at allFlips tt n l m) k hk) w hw)
-
+-- a flip keeps the length
 pub length-flip : (k : ℕ) (l : List Bool) → length (flipAt k l) ≡ length l
 length-flip k [] = refl
 length-flip zero (b ∷ l) = refl
 length-flip (suc k) (b ∷ l) = ap suc (length-flip k l)
-
--- ---- a word of n bits
 
 module _ (n : ℕ) (l : 6 ≤ n) (m : n ≤ 8) where
   -- data and parity make up the word

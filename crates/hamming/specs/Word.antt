@@ -1,6 +1,6 @@
 -- Document 01, "The four words" (MIL-STD-3005, 5.4). A word is given by its length n: eight bits (A), six (B), seven (C and D).
 use Prim.Native.Nat.{ℕ, zero, suc, _-_, _%_}
-use mathlib.Core.Bool.{Bool, true, false, not, cond, _&&_}
+use mathlib.Core.Bool.{Bool, false, not, cond, _&&_}
 use mathlib.Core.List.{List, [], _∷_, _++_}
 use lib.Dec.{eqb}
 use lib.ListN.{take, drop, replicate}

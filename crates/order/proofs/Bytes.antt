@@ -1,16 +1,15 @@
 -- Bytes and places are inverse, and the padding is the two low bits of the last byte.
 -- Assumes nothing.
-use mathlib.Core.Path.{_≡_, refl, sym, ap, ap₂, _∙_}
+use mathlib.Core.Path.{_≡_, refl, sym, ap, _∙_}
 use mathlib.Core.Bool.{Bool, false}
-use mathlib.Core.List.{List, [], _∷_}
-use Prim.Native.Nat.{ℕ, zero, suc, _+_, _*_, _/_, _%_, _^_, _≤_, _<_}
+use mathlib.Core.List.{List}
+use Prim.Native.Nat.{ℕ, _+_, _*_, _/_, _%_, _<_}
 use native.Mathlib.Nat.{add-zero}
 use native.Mathlib.Omega.{arith}
-use lib.Dec.{lit<}
 use lib.ListN.{length, getD}
 use Rattle.bits.specs.Bits.{value, bits, cut}
-use Rattle.bits.proofs.Cut.{length-cut, cut-at, cut-ext, cut-getD, cut-shift}
-use Rattle.bits.proofs.Value.{value-bits, value-bits-mod, bits-value, length-bits}
+use Rattle.bits.proofs.Cut.{cut-at, cut-ext, cut-getD, cut-shift}
+use Rattle.bits.proofs.Digits.{value-bits, value-bits-mod, bits-value, length-bits}
 use Rattle.order.specs.Order.{byteOf, bytesOf, bitAt, padding}
 
 -- the bit at place t of the bytes of a sequence is the sequence at t

@@ -1,9 +1,8 @@
 -- The default order is an order, and its places are the multiples of 7 modulo 54.
 -- Assumes nothing.
 use mathlib.Core.Path.{_≡_, refl}
-use mathlib.Core.Bool.{Bool}
 use Prim.Native.Nat.{ℕ, _*_, _%_, _<_}
-use Rattle.bits.proofs.Every.{every, equal-at}
+use Rattle.bits.proofs.Every.{equal-at}
 use Rattle.order.specs.Order.{times, Order, placeOf, orderBy, defaultOrder}
 
 pub default-order : Order defaultOrder

@@ -8,10 +8,10 @@ use native.Mathlib.Omega.{arith}
 use lib.Dec.{ltb, lit<, lit≤}
 use lib.ListN.{length, getD}
 use borrow.Author.Tests.{lt-ltb, le-ltb, ltb-true, ltb-false}
-use Rattle.bits.specs.Bits.{_⊻_, bits, cut}
+use Rattle.bits.specs.Bits.{_⊻_}
 use Rattle.bits.proofs.Cut.{length-cut, cut-at}
-use Rattle.order.specs.Order.{Order, placeOf, placed, byteOf, bytesOf, frameOf, bitAt, logicalBit, padding, through}
-use Rattle.order.proofs.Places.{entry-lt, entry-back, place-lt, place-back}
+use Rattle.order.specs.Order.{Order, placeOf, placed, byteOf, frameOf, bitAt, logicalBit, padding, through}
+use Rattle.order.proofs.Places.{entry-back, place-lt, place-back}
 use Rattle.order.proofs.Bytes.{place-bit, bytes-ext, bytes-back}
 
 -- what is placed below 54, and past it

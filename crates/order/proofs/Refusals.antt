@@ -1,6 +1,6 @@
 -- Which frames are refused: never a packed one, whatever a channel does to it, and only those that are not the frame of their own logical bits.
 -- Assumes nothing.
-use mathlib.Core.Path.{_≡_, refl, sym, ap, ap₂, _∙_}
+use mathlib.Core.Path.{_≡_, refl, ap, ap₂, _∙_}
 use mathlib.Core.Bool.{Bool, true, false, cond, _&&_}
 use mathlib.Core.List.{List, [], _∷_}
 use Prim.Native.Nat.{ℕ, _<_}
@@ -8,7 +8,7 @@ use native.Mathlib.Omega.{arith}
 use lib.Dec.{eqb, ltb, lit<}
 use lib.ListN.{length, getD}
 use borrow.Author.Tests.{eq-eqb, eqb-true}
-use Rattle.bits.specs.Bits.{_⊻_, ones, cut}
+use Rattle.bits.specs.Bits.{_⊻_, ones}
 use Rattle.bits.proofs.Cut.{length-cut}
 use Rattle.order.specs.Order.{Order, byteOf, frameOf, bitAt, logicalBit, padding, frameRefusal, through}
 use Rattle.order.proofs.Bytes.{place-bit}

@@ -1,19 +1,20 @@
 -- A frame's bits carried in one number: a bit is a shift, a byte is a shift and a remainder, and the places gathered one by one are the frame.
 -- Assumes nothing.
-use mathlib.Core.Path.{_≡_, refl, sym, ap, ap₂, _∙_, subst}
-use mathlib.Core.Bool.{Bool, true, false, cond}
-use mathlib.Core.List.{List, [], _∷_, _++_}
-use Prim.Native.Nat.{ℕ, zero, suc, _+_, _*_, _-_, _/_, _%_, _^_, _≤_, _<_}
+use mathlib.Core.Path.{_≡_, sym, ap, ap₂, _∙_, subst}
+use mathlib.Core.Bool.{Bool, false}
+use mathlib.Core.List.{List}
+use Prim.Native.Nat.{ℕ, suc, _+_, _*_, _-_, _/_, _%_, _^_, _≤_, _<_}
 use native.Mathlib.Nat.{zero-add, lt-of-lt-of-le}
 use native.Mathlib.Numerals.{add-one}
 use native.Mathlib.Omega.{arith}
-use lib.Dec.{lit<, lit≤}
-use lib.ListN.{length, getD, take, drop}
+use lib.Dec.{lit≤}
+use lib.ListN.{getD, take}
 use lib.Pow.{pow-mono}
 use Rattle.bits.specs.Bits.{bitNum, value, bits, cut}
 use Rattle.bits.proofs.Cut.{length-cut, cut-at, cut-snoc, cut-part}
-use Rattle.bits.proofs.Value.{value-lt-at, value-snoc, value-bits-mod, bits-value, bits-at, bit-is, take-bits, drop-bits, length-bits}
-use Rattle.order.specs.Order.{placed, byteOf, bytesOf}
+use Rattle.bits.proofs.Value.{value-lt-at, value-snoc}
+use Rattle.bits.proofs.Digits.{value-bits-mod, bits-value, bits-at, bit-is, take-bits, drop-bits, length-bits}
+use Rattle.order.specs.Order.{placed, bytesOf}
 use Rattle.order.specs.Word.{wordBit}
 use Rattle.order.proofs.Bytes.{bytes-ext}
 use Rattle.order.proofs.Frames.{placed-past}

@@ -1,6 +1,6 @@
 -- The class of a pitch code by its count of ones, which is the language's own count.
 -- Assumes nothing.
-use mathlib.Core.Path.{_≡_, refl, sym, ap, _∙_}
+use mathlib.Core.Path.{_≡_, refl, ap, _∙_}
 use mathlib.Core.Bool.{Bool}
 use mathlib.Core.List.{List}
 use Prim.Native.Nat.{ℕ, zero, suc, _%_, _≤_, _<_}
@@ -10,7 +10,7 @@ use lib.Dec.{lit<}
 use lib.Count as Count
 use Rattle.bits.specs.Bits.{ones, value, bits}
 use Rattle.bits.proofs.Every.{equal-at}
-use Rattle.bits.proofs.Value.{bits-mod}
+use Rattle.bits.proofs.Digits.{bits-mod}
 use Rattle.pitch.specs.Pitch.{index, byOnes, classOf}
 use Rattle.pitch.specs.declared.PitchClass.the-variants.{Unvoiced, Erased, Voiced}
 

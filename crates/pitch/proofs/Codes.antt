@@ -6,9 +6,9 @@ use mathlib.Core.List.{List}
 use Prim.Native.Nat.{ℕ, _<_}
 use lib.Dec.{T, eqb, eqb→eq, ltb, ltb→lt}
 use lib.ListN.{length}
-use Rattle.bits.specs.Bits.{value, bits}
-use Rattle.bits.proofs.Every.{and-left, and-right, implies, implies-at, every, every-at}
-use Rattle.bits.proofs.Patterns.{words, words-at}
+use Rattle.bits.specs.Bits.{bits}
+use Rattle.bits.proofs.Every.{and-left, and-right, implies, implies-at, every-at}
+use Rattle.bits.proofs.Patterns.{words-at}
 use Rattle.pitch.specs.Pitch.{index, isVoiced, classOf, voicedFrom, codeOf}
 use Rattle.pitch.specs.declared.PitchClass.{PitchClass}
 use Rattle.pitch.specs.declared.PitchClass.the-variants.{Unvoiced, Erased, Voiced}

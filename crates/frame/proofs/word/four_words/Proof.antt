@@ -1,5 +1,5 @@
 -- `frame::word::four_words` meets its contract: the parts are joined from the first on. Assumes nothing.
-use mathlib.Core.Path.{_≡_, sym}
+use mathlib.Core.Path.{sym}
 use borrow.Author.Needs.{needs}
 use Rattle.frame.proofs.Numbers.{words-value}
 use Rattle.frame.proofs.word.four_words.Statement.{statement}

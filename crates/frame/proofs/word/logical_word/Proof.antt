@@ -1,5 +1,5 @@
 -- `frame::word::logical_word` meets its contract: the words stand above the other bits. Assumes nothing.
-use mathlib.Core.Path.{_≡_, sym, ap, _∙_, subst⁻¹}
+use mathlib.Core.Path.{sym, ap, _∙_, subst⁻¹}
 use mathlib.Core.Bool.{_&&_}
 use Prim.Native.Nat.{ℕ, _<_}
 use lib.Dec.{T}

@@ -1,5 +1,5 @@
 -- `frame::word::other_bits` meets its contract: the parts are joined from the first on. Assumes nothing.
-use mathlib.Core.Path.{_≡_, sym, ap, _∙_}
+use mathlib.Core.Path.{sym, ap, _∙_}
 use Prim.Native.Nat.{ℕ, _+_, _*_}
 use borrow.Author.Needs.{needs}
 use Rattle.frame.proofs.Numbers.{others-value}

@@ -1,6 +1,6 @@
 -- `frame::word::unvoiced_words` meets its contract: the parity of each word is that of its data. Assumes nothing.
-use mathlib.Core.Path.{_≡_, refl, ap, _∙_}
-use Prim.Native.Nat.{ℕ, _/_, _%_, _*_, _+_, _<_, _^_}
+use mathlib.Core.Path.{refl, ap, _∙_}
+use Prim.Native.Nat.{_/_, _%_, _*_, _+_}
 use borrow.Author.Needs.{needs}
 use Rattle.bits.specs.Bits.{value, bits}
 use Rattle.bits.proofs.Value.{value-bound}

@@ -1,5 +1,5 @@
 -- `frame::word::voiced_words` meets its contract: the Fourier index is cut into the parity places. Assumes nothing.
-use mathlib.Core.Path.{_≡_, ap, _∙_}
+use mathlib.Core.Path.{ap, _∙_}
 use borrow.Author.Needs.{needs}
 use Rattle.bits.specs.Bits.{value}
 use Rattle.frame.proofs.Numbers.{voiced-words}

@@ -1,5 +1,5 @@
 -- `hamming::parity::parity_of` meets its contract: each length has its part of the four parity bits. Assumes nothing.
-use mathlib.Core.Path.{_≡_, refl, sym, ap, _∙_, subst⁻¹}
+use mathlib.Core.Path.{_≡_, sym, ap, _∙_, subst⁻¹}
 use Prim.Native.Nat.{ℕ, _/_, _%_, _*_}
 use native.Mathlib.Nat.{mul-one, div-one}
 use lib.Dec.{lit≤}

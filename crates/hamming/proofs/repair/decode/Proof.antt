@@ -1,9 +1,9 @@
 -- `hamming::repair::decode` meets its contract: what stands above the word's bits is taken off. Assumes nothing.
-use mathlib.Core.Path.{_≡_, refl, ap, _∙_, sym, subst⁻¹}
+use mathlib.Core.Path.{_≡_, ap, _∙_, sym, subst⁻¹}
 use Prim.Native.Nat.{ℕ}
 use borrow.Author.Needs.{needs}
 use Rattle.bits.specs.Bits.{bits}
-use Rattle.bits.proofs.Value.{bits-mod}
+use Rattle.bits.proofs.Digits.{bits-mod}
 use Rattle.hamming.specs.Word.{lengthOf, decode}
 use Rattle.hamming.specs.declared.WordLength.{WordLength}
 use Rattle.hamming.specs.declared.Decoded.{Decoded}

@@ -1,10 +1,9 @@
 -- `hamming::repair::decode_word` meets its contract: the entry at the syndrome decides the outcome. Assumes nothing.
 use mathlib.Core.Path.{_≡_, sym, ap, _∙_, subst}
-use Prim.Native.Nat.{ℕ, _/_, _%_, _^_, _≤_, _<_}
-use lib.Bits.{bitXor}
+use Prim.Native.Nat.{ℕ, _/_, _≤_}
 use borrow.Author.Needs.{needs}
 use Rattle.bits.specs.Bits.{value, bits}
-use Rattle.hamming.specs.Word.{lengthOf, checkBits, dataBits, parityOf, syndrome, fixOf}
+use Rattle.hamming.specs.Word.{dataBits, parityOf, syndrome, fixOf}
 use Rattle.hamming.specs.Table.{entryOf}
 use Rattle.hamming.specs.declared.Decoded.the-variants.{Read}
 use Rattle.hamming.proofs.Lengths.{length-least, length-most}

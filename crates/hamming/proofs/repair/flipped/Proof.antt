@@ -1,12 +1,12 @@
 -- `hamming::repair::flipped` meets its contract: the shifted one is the weight of the bit, which fits eight bits. Assumes nothing.
 use mathlib.Core.Path.{_≡_, ap, _∙_}
-use Prim.Native.Nat.{ℕ, _-_, _*_, _%_, _^_, _≤_, _<_}
+use Prim.Native.Nat.{ℕ, _-_, _*_, _%_, _^_, _<_}
 use native.Mathlib.Nat.{mod-eq-of-lt, one-mul}
 use native.Mathlib.Omega.{arith}
 use lib.Bits.{bitXor}
 use lib.Pow.{pow-lt}
 use borrow.Author.Needs.{needs}
-use Rattle.hamming.proofs.Words.{flip-is}
+use Rattle.hamming.proofs.Sums.{flip-is}
 use Rattle.hamming.proofs.repair.flipped.Statement.{statement}
 use Rattle.hamming.proofs.repair.flipped.Tie as tie
 

@@ -1,12 +1,11 @@
 -- `order::place::place_bits` meets its contract: after t turns the first t places are gathered. Assumes nothing.
 use mathlib.Core.Path.{_≡_, refl, sym, ap, _∙_}
 use mathlib.Core.Bool.{Bool}
-use Prim.Native.Nat.{ℕ, _-_, _+_, _*_, _^_, _≤_, _<_}
+use Prim.Native.Nat.{ℕ, _-_, _≤_, _<_}
 use native.Mathlib.Omega.{arith}
-use lib.ListN.{getD}
 use borrow.Author.Needs.{needs}
 use Rattle.bits.specs.Bits.{bitNum, value, cut}
-use Rattle.order.specs.Order.{defaultOrder, placed, bytesOf, frameOf}
+use Rattle.order.specs.Order.{defaultOrder, placed, frameOf}
 use Rattle.order.specs.Word.{wordBit}
 use Rattle.order.proofs.Frames.{placed-below}
 use Rattle.order.proofs.Words.{gather-more, gather-lt, gathered}

@@ -1,5 +1,5 @@
 -- `pitch::code::code_of` meets its contract: the table is the rule at every index, and past it the rule gives 0. Assumes nothing.
-use mathlib.Core.Path.{_≡_, sym, refl}
+use mathlib.Core.Path.{sym}
 use mathlib.Core.List.{List, [], _∷_}
 use Prim.Native.Nat.{ℕ}
 use lib.ListN.{getD, List·getD-eq-default}

@@ -1,5 +1,4 @@
 -- `vectors::levels::signed` is safe: no number below 2 ^ 31 taken from -1 leaves the type. Assumes nothing.
-use mathlib.Core.Path.{_≡_}
 use Prim.Native.Nat.{ℕ, zero, suc, _-_, _+_, _*_, _^_, _<_}
 use native.Mathlib.Omega.{arith}
 use lib.IntN.{pos, negsuc, _-ℤ_}
