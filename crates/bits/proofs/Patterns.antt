@@ -29,7 +29,8 @@ patterns-at (suc k) (suc n) f t [] e h = absurd (omega arith)
 patterns-at (suc k) (suc n) f t (false ∷ l) e h =
     patterns-at (suc k) n (λ l. f (false ∷ l)) (and-left (patterns (suc k) n (λ l. f (false ∷ l))) (patterns k n (λ l. f (true ∷ l))) t) l (omega arith) h
 patterns-at (suc k) (suc n) f t (true ∷ l) e h =
-    patterns-at k n (λ l. f (true ∷ l)) (and-right (patterns (suc k) n (λ l. f (false ∷ l))) (patterns k n (λ l. f (true ∷ l))) t) l (omega arith) (le-of-suc-le-suc h)
+    patterns-at k n (λ l. f (true ∷ l)) (and-right (patterns (suc k) n (λ l. f (false ∷ l))) (patterns k n (λ l. f (true ∷ l))) t) l (omega arith)
+    (le-of-suc-le-suc h)
 
 -- a test at every list of n bits
 abbrev pub words : ℕ → (List Bool → Bool) → Bool

@@ -52,7 +52,8 @@ value-inj (a ∷ l) (b ∷ m) e v = go a b (value-inj l m f) (ap (λ (x : ℕ). 
     f : length l ≡ length m
     f = omega arith
 
-    go : (a b : Bool) → (value l ≡ value m → l ≡ m) → 2 ^ length l ≡ 2 ^ length m → bitNum a * 2 ^ length l + value l ≡ bitNum b * 2 ^ length m + value m → a ∷ l ≡ b ∷ m
+    go : (a b : Bool) → (value l ≡ value m → l ≡ m) → 2 ^ length l ≡ 2 ^ length m
+        → bitNum a * 2 ^ length l + value l ≡ bitNum b * 2 ^ length m + value m → a ∷ l ≡ b ∷ m
     go true true rest p v = ap (λ (x : List Bool). true ∷ x) (rest (omega arith))
     go true false rest p v = absurd (omega (arith, value-lt m))
     go false true rest p v = absurd (omega (arith, value-lt l))

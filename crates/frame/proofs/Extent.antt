@@ -53,11 +53,13 @@ module _ (g h : ℕ → Bool) (e : (j : ℕ) → j < 53 → g j ≡ h j) where
   class-ext : (c : PitchClass) → byClass g c ≡ byClass h c
   class-ext class.Unvoiced =
       words-ext (decode 8 (cut g 0 8)) (decode 6 (cut g 8 6)) (decode 7 (cut g 14 7)) (decode 7 (cut g 21 7))
-      ∙ (λ t. fromWords h (decode 8 (cuts 0 8 (lit≤ tt) t)) (decode 6 (cuts 8 6 (lit≤ tt) t)) (decode 7 (cuts 14 7 (lit≤ tt) t)) (decode 7 (cuts 21 7 (lit≤ tt) t)))
+      ∙ (λ t. fromWords h (decode 8 (cuts 0 8 (lit≤ tt) t)) (decode 6 (cuts 8 6 (lit≤ tt) t)) (decode 7 (cuts 14 7 (lit≤ tt) t))
+      (decode 7 (cuts 21 7 (lit≤ tt) t)))
   class-ext class.Erased = refl
   class-ext (class.Voiced p) =
       (λ t. Accepted (Voiced (indices-ext (value (cut g 0 4)) (value (cut g 8 3)) (value (cut g 14 4)) (value (cut g 21 4)) t) (voicing-ext p t)) 0)
-      ∙ (λ t. Accepted (Voiced (indicesOf h (value (cuts 0 4 (lit≤ tt) t)) (value (cuts 8 3 (lit≤ tt) t)) (value (cuts 14 4 (lit≤ tt) t)) (value (cuts 21 4 (lit≤ tt) t))) (voicingOf h p)) 0)
+      ∙ (λ t. Accepted (Voiced (indicesOf h (value (cuts 0 4 (lit≤ tt) t)) (value (cuts 8 3 (lit≤ tt) t)) (value (cuts 14 4 (lit≤ tt) t))
+      (value (cuts 21 4 (lit≤ tt) t))) (voicingOf h p)) 0)
 
   -- bits that agree from 0 to 52 are read alike
   pub read-ext : read g ≡ read h

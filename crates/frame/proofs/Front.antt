@@ -7,12 +7,14 @@ use native.Mathlib.Nat.{not-suc-le-zero, le-of-suc-le-suc}
 use native.Mathlib.Numerals.{add-one}
 use lib.ListN.{length, getD, take, drop, set}
 
-front-suc : {A : Type 0} (s d : List A) (j : ℕ) (z : A) → j < length d → j < length s → set (take j s ++ drop j d) j (getD s j z) ≡ take (suc j) s ++ drop (suc j) d
+front-suc : {A : Type 0} (s d : List A) (j : ℕ) (z : A) → j < length d → j < length s
+    → set (take j s ++ drop j d) j (getD s j z) ≡ take (suc j) s ++ drop (suc j) d
 front-suc s [] j z l m = absurd (not-suc-le-zero l)
 front-suc [] (x ∷ d) j z l m = absurd (not-suc-le-zero m)
 front-suc (y ∷ s) (x ∷ d) zero z l m = refl
 front-suc (y ∷ s) (x ∷ d) (suc j) z l m = ap (λ (t : List _). y ∷ t) (front-suc s d j z (le-of-suc-le-suc l) (le-of-suc-le-suc m))
 
 -- where the first j entries of d are those of s, one more store makes it j + 1
-pub front-more : {A : Type 0} (s d : List A) (j : ℕ) (z : A) → j < length d → j < length s → set (take j s ++ drop j d) j (getD s j z) ≡ take (j + 1) s ++ drop (j + 1) d
+pub front-more : {A : Type 0} (s d : List A) (j : ℕ) (z : A) → j < length d → j < length s
+    → set (take j s ++ drop j d) j (getD s j z) ≡ take (j + 1) s ++ drop (j + 1) d
 front-more s d j z l m = rw add-one (front-suc s d j z l m)

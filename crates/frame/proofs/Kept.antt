@@ -30,7 +30,8 @@ by-class g class.Erased t = tt
 by-class g (class.Voiced i) t = tt
 
 -- a voiced frame with at most one flip in its pitch code is read voiced or erased
-pub voiced-read : (x : Indices) (v : Voicing) (sync : Bool) (fl : ℕ → Bool) → v .pitch < 99 → ones (cut fl 28 7) ≤ 1 → T (voicedOrErased (read (damaged (logicalOf (Voiced x v) sync) fl)))
+pub voiced-read : (x : Indices) (v : Voicing) (sync : Bool) (fl : ℕ → Bool) → v .pitch < 99 → ones (cut fl 28 7) ≤ 1
+    → T (voicedOrErased (read (damaged (logicalOf (Voiced x v) sync) fl)))
 unfolding words others voicedWords logical read
 voiced-read x v sync fl h f =
     let g : ℕ → Bool = damaged (logicalOf (Voiced x v) sync) fl in

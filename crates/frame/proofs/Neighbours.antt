@@ -38,18 +38,21 @@ module _ (n : ℕ) (fl : ℕ → Bool) (w : Within n fl) where
   -- where one place is flipped, none that is far from it is
   none-far : (p : ℕ) (qs : List ℕ) → p < 54 → fl p ≡ true → T (far n p qs) → ones (map fl qs) ≡ 0
   none-far p [] hp e t = refl
-  none-far p (q ∷ qs) hp e t = go (fl q) refl (and-left (ltb q 54 && apart n p q) (far n p qs) t) (none-far p qs hp e (and-right (ltb q 54 && apart n p q) (far n p qs) t))
+  none-far p (q ∷ qs) hp e t =
+      go (fl q) refl (and-left (ltb q 54 && apart n p q) (far n p qs) t) (none-far p qs hp e (and-right (ltb q 54 && apart n p q) (far n p qs) t))
     where
       go : (b : Bool) → fl q ≡ b → T (ltb q 54 && apart n p q) → ones (map fl qs) ≡ 0 → addOne b (ones (map fl qs)) ≡ 0
       go true f k ih =
           let hq : q < 54 = ltb→lt q 54 (and-left (ltb q 54) (apart n p q) k) in
-          absurd (apart-out n p q (and-right (ltb q 54) (apart n p q) k) (omega (arith, w .inside p hp e, w .inside q hq f)) (omega (arith, w .inside p hp e, w .inside q hq f)))
+          absurd (apart-out n p q (and-right (ltb q 54) (apart n p q) k) (omega (arith, w .inside p hp e, w .inside q hq f))
+          (omega (arith, w .inside p hp e, w .inside q hq f)))
       go false f k ih = ih
 
   -- so at most one of places that are spread is
   pub spread-one : (ps : List ℕ) → T (spread n ps) → ones (map fl ps) ≤ 1
   spread-one [] t = zero-le
-  spread-one (p ∷ ps) t = go (fl p) refl (and-left (ltb p 54 && far n p ps) (spread n ps) t) (spread-one ps (and-right (ltb p 54 && far n p ps) (spread n ps) t))
+  spread-one (p ∷ ps) t =
+      go (fl p) refl (and-left (ltb p 54 && far n p ps) (spread n ps) t) (spread-one ps (and-right (ltb p 54 && far n p ps) (spread n ps) t))
     where
       go : (b : Bool) → fl p ≡ b → T (ltb p 54 && far n p ps) → ones (map fl ps) ≤ 1 → addOne b (ones (map fl ps)) ≤ 1
       go true f k ih = omega (arith, none-far p ps (ltb→lt p 54 (and-left (ltb p 54) (far n p ps) k)) f (and-right (ltb p 54) (far n p ps) k))

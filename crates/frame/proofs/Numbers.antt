@@ -46,7 +46,8 @@ module _ (x : Indices) where
       ∙ omega arith
 
   -- the parity that the calls give is that of the data
-  pub unvoiced-words : x .g1 < 8 → (pa pb pc pd : ℕ) → pa ≡ value (parityOf 8 (bits 4 (x .l1 / 8))) → pb ≡ value (parityOf 6 (bits 3 (x .l1))) → pc ≡ value (parityOf 7 (bits 4 (x .g2 / 2)))
+  pub unvoiced-words : x .g1 < 8 → (pa pb pc pd : ℕ) → pa ≡ value (parityOf 8 (bits 4 (x .l1 / 8))) → pb ≡ value (parityOf 6 (bits 3 (x .l1)))
+      → pc ≡ value (parityOf 7 (bits 4 (x .g2 / 2)))
       → pd ≡ value (parityOf 7 (bits 4 (x .g2 % 2 * 8 + x .g1))) → words x (bits 4 pa) (bits 3 pb) (bits 3 pc) (bits 3 pd) ≡ unvoicedWords x
   unfolding unvoicedWords
   unvoiced-words h pa pb pc pd ea eb ec ed i =
@@ -64,9 +65,11 @@ module _ (x : Indices) where
       let f = v .fourier in
       let last = bit 1 f ∷ bit 0 f ∷ bit 0 (v .aperiodic) ∷ [] in
       words x (bits 4 (v .bandpass)) (sym (take-bits 3 5 f) i) ((bits-mod 3 (f / 4) ∙ sym (take-bits 3 2 f)) i)
-      ((ap (bits 3) (sym (value-join (bits 2 f) (bits 1 (v .aperiodic)) 1 (f % 4) (v .aperiodic) refl (value-bits-mod 2 f) (value-bits 1 (v .aperiodic) h))) ∙ bits-value 3 last refl) i)
+      ((ap (bits 3) (sym (value-join (bits 2 f) (bits 1 (v .aperiodic)) 1 (f % 4) (v .aperiodic) refl (value-bits-mod 2 f)
+      (value-bits 1 (v .aperiodic) h))) ∙ bits-value 3 last refl) i)
 
 -- all 54 bits: the words stand above the other 26
-pub logical-value : (a : List Bool) (x : Indices) (code : ℕ) (sync : Bool) (w o : ℕ) → w ≡ value a → o ≡ value (others x (bits 7 code) sync) → w * 2 ^ 26 + o ≡ value (a ++ others x (bits 7 code) sync)
+pub logical-value : (a : List Bool) (x : Indices) (code : ℕ) (sync : Bool) (w o : ℕ) → w ≡ value a → o ≡ value (others x (bits 7 code) sync)
+    → w * 2 ^ 26 + o ≡ value (a ++ others x (bits 7 code) sync)
 unfolding others
 logical-value a x code sync w o ew eo = sym (value-join a (others x (bits 7 code) sync) 26 w o refl (sym ew) (sym eo))

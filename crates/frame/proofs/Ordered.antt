@@ -40,7 +40,8 @@ module _ (ord : List ℕ) (o : Order ord) where
   pub received-read : (set : ParameterSet) (sync : Bool) (fl : ℕ → Bool)
       → read (logicalBit ord (through fl (frame ord set sync))) ≡ read (damaged (logicalOf set sync) (logicalFlips fl))
   received-read set sync fl =
-      read-ext (logicalBit ord (through fl (frame ord set sync))) (damaged (logicalOf set sync) (logicalFlips fl)) (λ j h. received-bit ord o (logicalOf set sync) fl j (omega arith))
+      read-ext (logicalBit ord (through fl (frame ord set sync))) (damaged (logicalOf set sync) (logicalFlips fl))
+      (λ j h. received-bit ord o (logicalOf set sync) fl j (omega arith))
 
   module _ (x : Indices) (sync : Bool) (fl : ℕ → Bool) where
     -- the light-frame law: at most one flip in the pitch code and in each word leaves L1, G2 and G1 as sent, and every flip counted
@@ -49,7 +50,8 @@ module _ (ord : List ℕ) (o : Order ord) where
     correctable-returns t k = received-read (Unvoiced x) sync fl ∙ correctable-read x sync (logicalFlips fl) k (index-ranges x t)
 
     -- exactly two flips in word A, and at most one in the pitch code, erase a frame sent unvoiced
-    pub double-erased : ones (cut (logicalFlips fl) 0 8) ≡ 2 → ones (cut (logicalFlips fl) 28 7) ≤ 1 → read (logicalBit ord (through fl (frame ord (Unvoiced x) sync))) ≡ Erased
+    pub double-erased : ones (cut (logicalFlips fl) 0 8) ≡ 2 → ones (cut (logicalFlips fl) 28 7) ≤ 1
+        → read (logicalBit ord (through fl (frame ord (Unvoiced x) sync))) ≡ Erased
     double-erased a p = received-read (Unvoiced x) sync fl ∙ double-read x sync (logicalFlips fl) a p
 
   -- at most one flip in its pitch code leaves a frame sent voiced voiced, or erases it

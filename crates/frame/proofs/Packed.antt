@@ -26,7 +26,8 @@ logical-length (Voiced x v) sync = refl
 
 -- the frame of the number that they stand for is the frame of the set
 pub word-frame : (ord : List ℕ) (set : ParameterSet) (sync : Bool) (w : ℕ) → w ≡ value (logical set sync) → frameOf ord (wordBit 54 w) ≡ frame ord set sync
-word-frame ord set sync w e = ap (λ (l : List Bool). frameOf ord (λ j. getD l j false)) (ap (bits 54) e ∙ bits-value 54 (logical set sync) (logical-length set sync))
+word-frame ord set sync w e =
+    ap (λ (l : List Bool). frameOf ord (λ j. getD l j false)) (ap (bits 54) e ∙ bits-value 54 (logical set sync) (logical-length set sync))
 
 -- what a call answers and leaves
 abbrev Owed : ParameterSet → Bool → List ℕ → PackAnswer → List ℕ → Type 0

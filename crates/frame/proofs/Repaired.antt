@@ -85,4 +85,5 @@ module _ (x : Indices) (sync : Bool) (fl : ℕ → Bool) where
   unfolding words others unvoicedWords logical read
   double-read ha hp =
       ap (byClass got) (class-stays hp)
-      ∙ ap (λ (r : Decoded). fromWords got r (decode 6 (cut got 8 6)) (decode 7 (cut got 14 7)) (decode 7 (cut got 21 7))) (double-erases (dataA x) (cut fl 0 8) refl refl ha)
+      ∙ ap (λ (r : Decoded). fromWords got r (decode 6 (cut got 8 6)) (decode 7 (cut got 14 7)) (decode 7 (cut got 21 7)))
+      (double-erases (dataA x) (cut fl 0 8) refl refl ha)

@@ -14,7 +14,11 @@ use Rattle.hamming.proofs.Lengths.{lengths-at}
 
 -- the four parity bits of four data bits, as sums
 abbrev pub sums : ℕ → ℕ
-sums u = (u / 8 + u / 4 % 2 + u % 2) % 2 * 8 + (u / 8 + u / 2 % 2 + u % 2) % 2 * 4 + (u / 4 % 2 + u / 2 % 2 + u % 2) % 2 * 2 + (u / 8 + u / 4 % 2 + u / 2 % 2) % 2
+sums u =
+    (u / 8 + u / 4 % 2 + u % 2) % 2 * 8
+    + (u / 8 + u / 2 % 2 + u % 2) % 2 * 4
+    + (u / 4 % 2 + u / 2 % 2 + u % 2) % 2 * 2
+    + (u / 8 + u / 4 % 2 + u / 2 % 2) % 2
 
 -- they are the parity equations
 pub sums-are : (u : ℕ) → u < 16 → sums u ≡ value (parity (bits 4 u))
@@ -24,8 +28,10 @@ sums-are = equal-at 16 sums (λ u. value (parity (bits 4 u))) tt
 short : ℕ → ℕ → Bool
 short n u = eqb (value (parity (bits 4 (u * 2 ^ (4 - dataBits n)))) / 2 ^ (4 - checkBits n)) (value (parityOf n (bits (dataBits n) u)))
 
-pub parity-is : (n : ℕ) → 6 ≤ n → n ≤ 8 → (u : ℕ) → value (parity (bits 4 (u % 2 ^ dataBits n * 2 ^ (4 - dataBits n)))) / 2 ^ (4 - checkBits n) ≡ value (parityOf n (bits (dataBits n) u))
+pub parity-is : (n : ℕ) → 6 ≤ n → n ≤ 8 → (u : ℕ)
+    → value (parity (bits 4 (u % 2 ^ dataBits n * 2 ^ (4 - dataBits n)))) / 2 ^ (4 - checkBits n) ≡ value (parityOf n (bits (dataBits n) u))
 unfolding short
 parity-is n l m u =
-    eqb→eq _ _ (every-at (2 ^ dataBits n) (short n) (lengths-at (λ n. every (2 ^ dataBits n) (short n)) tt n l m) (u % 2 ^ dataBits n) (mod-lt u (pow-pos (dataBits n))))
+    eqb→eq _ _ (every-at (2 ^ dataBits n) (short n) (lengths-at (λ n. every (2 ^ dataBits n) (short n)) tt n l m) (u % 2 ^ dataBits n)
+    (mod-lt u (pow-pos (dataBits n))))
     ∙ ap (λ x. value (parityOf n x)) (bits-mod (dataBits n) u)

@@ -37,7 +37,8 @@ allRepairs : ℕ → Bool
 allRepairs n = words (dataBits n) (λ d. patterns 1 n (repairs n d))
 
 -- no flip or one: the data as sent, and the flip counted
-pub repair : (n : ℕ) → 6 ≤ n → n ≤ 8 → (d e : List Bool) → length d ≡ dataBits n → length e ≡ n → ones e ≤ 1 → decode n (encode n d ⊕ e) ≡ Read (value d) (ones e)
+pub repair : (n : ℕ) → 6 ≤ n → n ≤ 8 → (d e : List Bool) → length d ≡ dataBits n → length e ≡ n → ones e ≤ 1
+    → decode n (encode n d ⊕ e) ≡ Read (value d) (ones e)
 unfolding repairs allRepairs fixOf decode
 repair n l m d e hd he h =
     sameRead-eq (decode n (encode n d ⊕ e)) (Read (value d) (ones e))

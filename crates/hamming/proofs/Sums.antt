@@ -17,7 +17,9 @@ xorSame k a b = same (bits k (bitXor a b)) (bits k a ⊕ bits k b)
 -- the bits of an exclusive or of numbers below 16
 pub xor-bits : (k a b : ℕ) → k < 5 → a < 16 → b < 16 → bits k (bitXor a b) ≡ bits k a ⊕ bits k b
 unfolding xorSame
-xor-bits k a b hk ha hb = same-eq _ _ (every-at 16 (xorSame k a) (every-at 16 (λ a. every 16 (xorSame k a)) (every-at 5 (λ k. every 16 (λ a. every 16 (xorSame k a))) tt k hk) a ha) b hb)
+xor-bits k a b hk ha hb =
+    same-eq _ _ (every-at 16 (xorSame k a) (every-at 16 (λ a. every 16 (xorSame k a))
+    (every-at 5 (λ k. every 16 (λ a. every 16 (xorSame k a))) tt k hk) a ha) b hb)
 
 flipSame : ℕ → ℕ → ℕ → Bool
 flipSame n k w = eqb (bitXor w (2 ^ (n - 1 - k))) (value (flipAt k (bits n w)))

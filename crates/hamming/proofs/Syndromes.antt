@@ -1,4 +1,5 @@
--- What is asked for at every syndrome of every word: each bit's column flips that bit, parity bits included, an even one erases word A, and only zero and the spare's column let a word stand.
+-- What is asked for at every syndrome of every word: each bit's column flips that bit, parity bits included; an even one erases word A;
+-- only zero and the spare's column let a word stand.
 -- Assumes nothing.
 use mathlib.Core.Path.{_≡_, refl, ap}
 use mathlib.Core.Bool.{Bool, true, false, _&&_, _||_, not}

@@ -47,14 +47,17 @@ module _ (n : ℕ) (l : 6 ≤ n) (m : n ≤ 8) where
   pub data-flipped : (k w : ℕ) → value (dataOf n (flipAt k (bits n w))) ≡ value (flipAt k (bits n w)) / 2 ^ checkBits n
   data-flipped k w =
       let e : length (flipAt k (bits n w)) ≡ n = length-flip k (bits n w) ∙ length-bits n w in
-      ap (λ (x : List Bool). value (dataOf n x)) (sym (bits-value n (flipAt k (bits n w)) e)) ∙ data-value (value (flipAt k (bits n w))) (value-lt-at n (flipAt k (bits n w)) e)
+      ap (λ (x : List Bool). value (dataOf n x)) (sym (bits-value n (flipAt k (bits n w)) e)) ∙ data-value (value (flipAt k (bits n w)))
+      (value-lt-at n (flipAt k (bits n w)) e)
 
   -- the parity that belongs to a word's data
   abbrev pub expected : ℕ → ℕ
   expected w = value (parityOf n (bits (dataBits n) (w / 2 ^ checkBits n)))
 
   parity-length : (d : List Bool) → length d ≡ dataBits n → length (parityOf n d) ≡ checkBits n
-  parity-length d h = eqb→eq _ _ (words-at (dataBits n) (λ d. eqb (length (parityOf n d)) (checkBits n)) (lengths-at (λ n. words (dataBits n) (λ d. eqb (length (parityOf n d)) (checkBits n))) tt n l m) d h)
+  parity-length d h =
+      eqb→eq _ _ (words-at (dataBits n) (λ d. eqb (length (parityOf n d)) (checkBits n))
+      (lengths-at (λ n. words (dataBits n) (λ d. eqb (length (parityOf n d)) (checkBits n))) tt n l m) d h)
 
   expected-bits : (w : ℕ) → bits (checkBits n) (expected w) ≡ parityOf n (dataOf n (bits n w))
   expected-bits w =

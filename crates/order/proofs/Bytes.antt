@@ -29,7 +29,8 @@ bytes-ext g h e = cut-ext (byteOf g) (byteOf h) 0 7 (λ i a b. ap value (cut-ext
 byte-back : (bytes : List ℕ) (i : ℕ) → getD bytes i 0 < 256 → byteOf (bitAt bytes) i ≡ getD bytes i 0
 unfolding bitAt
 byte-back bytes i h =
-    ap value (cut-ext (bitAt bytes) (λ t. getD (bits 8 (getD bytes i 0)) (t % 8) false) (8 * i) 8 (λ t a b. ap (λ (k : ℕ). getD (bits 8 (getD bytes k 0)) (t % 8) false) (omega arith)))
+    ap value (cut-ext (bitAt bytes) (λ t. getD (bits 8 (getD bytes i 0)) (t % 8) false) (8 * i) 8
+    (λ t a b. ap (λ (k : ℕ). getD (bits 8 (getD bytes k 0)) (t % 8) false) (omega arith)))
     ∙ ap value (whole (bits 8 (getD bytes i 0)) (length-bits 8 (getD bytes i 0)))
     ∙ value-bits 8 (getD bytes i 0) h
   where

@@ -58,7 +58,8 @@ unfolding below
 all-below n [] e t h = absurd (not-suc-le-zero h)
 all-below n (x ∷ xs) e t h = go (ltb x n) refl (all-below n xs) e t h
   where
-    go : (b : Bool) → ltb x n ≡ b → (below n xs ≡ length xs → (t : ℕ) → t < length xs → getD xs t 0 < n) → addOne b (below n xs) ≡ suc (length xs) → (t : ℕ) → t < suc (length xs) → getD (x ∷ xs) t 0 < n
+    go : (b : Bool) → ltb x n ≡ b → (below n xs ≡ length xs → (t : ℕ) → t < length xs → getD xs t 0 < n) → addOne b (below n xs) ≡ suc (length xs)
+        → (t : ℕ) → t < suc (length xs) → getD (x ∷ xs) t 0 < n
     go true eb rest e zero h = ltb-true x n eb
     go true eb rest e (suc t) h = rest (omega arith) t (le-of-suc-le-suc h)
     go false eb rest e t h = absurd (omega (arith, below-le n xs))

@@ -52,7 +52,8 @@ module _ (ord : List ℕ) (g : ℕ → Bool) where
       (place-bit (placed ord g) 55 (lit< tt) ∙ placed-past ord g 55 (lit≤ tt))
 
 -- a frame with clear padding is the frame of its logical bits
-pub frame-back : (ord : List ℕ) → Order ord → (bytes : List ℕ) → length bytes ≡ 7 → ((i : ℕ) → i < 7 → getD bytes i 0 < 256) → padding bytes ≡ false ∷ false ∷ []
+pub frame-back : (ord : List ℕ) → Order ord → (bytes : List ℕ) → length bytes ≡ 7 → ((i : ℕ) → i < 7 → getD bytes i 0 < 256)
+    → padding bytes ≡ false ∷ false ∷ []
     → frameOf ord (logicalBit ord bytes) ≡ bytes
 unfolding frameOf
 frame-back ord o bytes e h p = bytes-ext (placed ord (logicalBit ord bytes)) (bitAt bytes) same ∙ bytes-back bytes e h

@@ -29,7 +29,8 @@ counted : (l : List ℕ) (j t : ℕ) → t < length l → getD l t 0 ≡ j → t
 counted [] j t h e z = not-suc-le-zero h
 counted (x ∷ xs) j t h e z = go (eqb x j) refl (counted xs j) t h e z
   where
-    go : (b : Bool) → eqb x j ≡ b → ((t : ℕ) → t < length xs → getD xs t 0 ≡ j → times j xs ≡ 0 → ⊥) → (t : ℕ) → t < suc (length xs) → getD (x ∷ xs) t 0 ≡ j → addOne b (times j xs) ≡ 0 → ⊥
+    go : (b : Bool) → eqb x j ≡ b → ((t : ℕ) → t < length xs → getD xs t 0 ≡ j → times j xs ≡ 0 → ⊥) → (t : ℕ) → t < suc (length xs)
+        → getD (x ∷ xs) t 0 ≡ j → addOne b (times j xs) ≡ 0 → ⊥
     go true eb rest t h e z = omega arith
     go false eb rest zero h e z = eqb-false x j eb e
     go false eb rest (suc t) h e z = rest t (le-of-suc-le-suc h) e z

@@ -23,7 +23,8 @@ taken bytes e p =
 pub taken-only : (bytes : List ℕ) → frameRefusal bytes ≡ 0 → (length bytes ≡ 7) × (padding bytes ≡ false ∷ false ∷ [])
 taken-only bytes r = go (eqb (length bytes) 7) (bitAt bytes 54) (bitAt bytes 55) refl r
   where
-    go : (b x y : Bool) → eqb (length bytes) 7 ≡ b → _≡_ {A = ℕ} (cond b (cond (eqb (ones (x ∷ y ∷ [])) 0) 0 3) 2) 0 → (length bytes ≡ 7) × (x ∷ y ∷ [] ≡ false ∷ false ∷ [])
+    go : (b x y : Bool) → eqb (length bytes) 7 ≡ b → _≡_ {A = ℕ} (cond b (cond (eqb (ones (x ∷ y ∷ [])) 0) 0 3) 2) 0
+        → (length bytes ≡ 7) × (x ∷ y ∷ [] ≡ false ∷ false ∷ [])
     go true true true e r = absurd (omega arith)
     go true true false e r = absurd (omega arith)
     go true false true e r = absurd (omega arith)
@@ -48,5 +49,6 @@ through-taken fl bytes r =
     taken (through fl bytes) (length-cut (byteOf (λ t. bitAt bytes t ⊻ (ltb t 54 && fl t))) 0 7) (through-padding fl bytes ∙ taken-only bytes r .1)
 
 -- a frame that is taken is the frame of its logical bits
-pub taken-back : (ord : List ℕ) → Order ord → (bytes : List ℕ) → ((i : ℕ) → i < 7 → getD bytes i 0 < 256) → frameRefusal bytes ≡ 0 → frameOf ord (logicalBit ord bytes) ≡ bytes
+pub taken-back : (ord : List ℕ) → Order ord → (bytes : List ℕ) → ((i : ℕ) → i < 7 → getD bytes i 0 < 256) → frameRefusal bytes ≡ 0
+    → frameOf ord (logicalBit ord bytes) ≡ bytes
 taken-back ord o bytes h r = let t = taken-only bytes r in frame-back ord o bytes (t .0) h (t .1)

@@ -26,14 +26,16 @@ word-bit n word j h = sym (ap bitNum (bits-at n j word h) ∙ bit-is (n - suc j)
 -- k bits from a on are a shift and a remainder
 pub word-part : (a k c word : ℕ) → value (cut (wordBit (a + (k + c)) word) a k) ≡ word / 2 ^ c % 2 ^ k
 word-part a k c word =
-    ap value (cut-part false (bits (a + (k + c)) word) a k (omega (arith, length-bits (a + (k + c)) word)) ∙ ap (take k) (drop-bits a (k + c) word) ∙ take-bits k c word)
+    ap value (cut-part false (bits (a + (k + c)) word) a k (omega (arith, length-bits (a + (k + c)) word)) ∙ ap (take k) (drop-bits a (k + c) word)
+    ∙ take-bits k c word)
     ∙ value-bits-mod k (word / 2 ^ c)
 
 -- one place more
 pub gather-more : (h : ℕ → Bool) (t x b : ℕ) → x ≡ value (cut h 0 t) → b ≡ bitNum (h t) → x * 2 + b ≡ value (cut h 0 (t + 1))
 gather-more h t x b e f =
     ap₂ (λ (y z : ℕ). y * 2 + z) e f
-    ∙ sym (ap (λ (k : ℕ). value (cut h 0 k)) (add-one t) ∙ ap value (cut-snoc h 0 t) ∙ value-snoc (cut h 0 t) (h (0 + t)) ∙ ap (λ (k : ℕ). value (cut h 0 t) * 2 + bitNum (h k)) (omega arith))
+    ∙ sym (ap (λ (k : ℕ). value (cut h 0 k)) (add-one t) ∙ ap value (cut-snoc h 0 t) ∙ value-snoc (cut h 0 t) (h (0 + t))
+    ∙ ap (λ (k : ℕ). value (cut h 0 t) * 2 + bitNum (h k)) (omega arith))
 
 -- what is gathered of at most 54 places stays below 2 ^ 54
 pub gather-lt : (h : ℕ → Bool) (t x : ℕ) → t ≤ 54 → x ≡ value (cut h 0 t) → x < 2 ^ 54

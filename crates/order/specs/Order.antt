@@ -1,4 +1,5 @@
--- Document 01, "Order of the bits": orders, the default one (the house order), places, bytes and the channel. A frame's logical bits are a sequence, of which 0 to 53 count.
+-- Document 01, "Order of the bits": orders, the default one (document 01's house order), places, bytes and the channel.
+-- A frame's logical bits are a sequence, of which 0 to 53 count.
 use Prim.Native.Nat.{ℕ, zero, suc, _*_, _/_, _%_, _<_}
 use mathlib.Core.Path.{_≡_}
 use mathlib.Core.Bool.{Bool, false, cond, _&&_}

@@ -1,4 +1,5 @@
--- MIL-STD-3005, Table I: each row that our copy still has agrees with the rule. The rows of 0x0C to 0x11, 0x2C to 0x31, 0x4C to 0x51 and 0x6C to 0x71 are missing there.
+-- MIL-STD-3005, Table I: each row that our copy still has agrees with the rule.
+-- The rows of 0x0C to 0x11, 0x2C to 0x31, 0x4C to 0x51 and 0x6C to 0x71 are missing there.
 -- Assumes nothing.
 use mathlib.Core.Path.{_≡_, refl}
 use mathlib.Core.List.{List, [], _∷_}

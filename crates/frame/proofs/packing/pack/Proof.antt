@@ -33,7 +33,8 @@ returns-2 c =
     let taken = placed .before .before .before in
     let a = taken .before .before .before .before .args in
     packed-owes (a .set) (a .sync) (a .out .now) (taken .before .before .if1 .left) (sym (taken .before .is-sendable .ensures) ∙ taken .if2 .taken)
-    (placed .place-bits .result) _ (placed .place-bits .ensures ∙ word-frame defaultOrder (a .set) (a .sync) _ (placed .before .logical-word .ensures)) (written .write-front .ensures)
+    (placed .place-bits .result) _ (placed .place-bits .ensures ∙ word-frame defaultOrder (a .set) (a .sync) _
+    (placed .before .logical-word .ensures)) (written .write-front .ensures)
 
 returns-3 : tie.Need-returns-3
 returns-3 c =

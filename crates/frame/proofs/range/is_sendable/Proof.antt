@@ -28,7 +28,8 @@ returns c =
 
 returns-2 : tie.Need-returns-2
 returns-2 c =
-    ap₂ (λ (a b : Bool). a && b && not (eqb (c .before .before .before .before .set2 .given .0 .1 .0 .bandpass) 1)) (c .before .before .indices-fit2 .ensures) (c .before .voicing-fits .ensures)
+    ap₂ (λ (a b : Bool). a && b && not (eqb (c .before .before .before .before .set2 .given .0 .1 .0 .bandpass) 1))
+    (c .before .before .indices-fit2 .ensures) (c .before .voicing-fits .ensures)
     ∙ ap sendable (sym (c .before .before .before .before .set2 .given .1))
 
 pub is-sendable-spec : {M : Type 1} → statement M

@@ -68,8 +68,13 @@ add-result-3 c = search needs
 returns : tie.Need-returns
 returns c =
     let s = c .before .before .before .before .before in
-    let a = s .args in
-    (sym (words-value (a .x) (s .pre .0 .0) (s .pre .0 .1) (s .pre .0 .2) (a .pa) (a .pb) (a .pc) (a .pd) (s .pre .1 .0) (s .pre .1 .1) (s .pre .1 .2) (s .pre .1 .3)), search needs)
+    let a = s .args in (
+      sym (words-value (a .x) (s .pre .0 .0) (s .pre .0 .1) (s .pre .0 .2) (a .pa) (a .pb) (a .pc) (a .pd) (s .pre .1 .0) (s .pre .1 .1)
+          (s .pre .1 .2) (s .pre .1 .3)),
+      search needs,
+    )
 
 pub four-words-spec : {M : Type 1} → statement M
-four-words-spec = tie.close (tie.spec mul-a add-a mul-b add-b mul-c add-c mul-d add-d mul-d-2 add-d-2 cast-result mul-result cast-result-2 add-result mul-result-2 cast-result-3 add-result-2 mul-result-3 cast-result-4 add-result-3 returns)
+four-words-spec =
+    tie.close (tie.spec mul-a add-a mul-b add-b mul-c add-c mul-d add-d mul-d-2 add-d-2 cast-result mul-result cast-result-2 add-result mul-result-2
+    cast-result-3 add-result-2 mul-result-3 cast-result-4 add-result-3 returns)

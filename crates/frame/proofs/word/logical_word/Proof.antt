@@ -93,4 +93,6 @@ returns-2 c =
     ∙ ap (λ (t : ParameterSet). value (logical t (s .args .sync))) (sym (known .set2 .given .1))
 
 pub logical-word-spec : {M : Type 1} → statement M
-logical-word-spec = tie.close (tie.spec enum-known-set unvoiced-words-requires mul-result other-bits-requires add-result enum-known-set-2 voiced-words-requires mul-result-2 code-of-requires other-bits-requires-2 add-result-2 returns returns-2)
+logical-word-spec =
+    tie.close (tie.spec enum-known-set unvoiced-words-requires mul-result other-bits-requires add-result enum-known-set-2 voiced-words-requires
+    mul-result-2 code-of-requires other-bits-requires-2 add-result-2 returns returns-2)

@@ -52,4 +52,6 @@ returns c =
     )
 
 pub other-bits-spec : {M : Type 1} → statement M
-other-bits-spec = tie.close (tie.spec cast-spectrum mul-spectrum cast-spectrum-2 add-spectrum mul-spectrum-2 cast-spectrum-3 add-spectrum-2 mul-result add-result mul-result-2 bit-number-requires add-result-2 returns)
+other-bits-spec =
+    tie.close (tie.spec cast-spectrum mul-spectrum cast-spectrum-2 add-spectrum mul-spectrum-2 cast-spectrum-3 add-spectrum-2 mul-result add-result
+    mul-result-2 bit-number-requires add-result-2 returns)

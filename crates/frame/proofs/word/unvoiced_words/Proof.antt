@@ -45,10 +45,13 @@ returns c =
     let d = c .before in
     let s = d .before .before .before .before .before .before .before .before in (
       c .four-words .ensures .0
-          ∙ ap value (unvoiced-words (s .args .x) (s .pre .2) _ _ _ _ (d .before .before .before .before .before .before .parity-of .ensures) (d .before .before .before .before .before .parity-of2 .ensures)
+          ∙ ap value (unvoiced-words (s .args .x) (s .pre .2) _ _ _ _ (d .before .before .before .before .before .before .parity-of .ensures)
+          (d .before .before .before .before .before .parity-of2 .ensures)
           (d .before .before .before .parity-of3 .ensures) (d .parity-of4 .ensures)),
       c .four-words .ensures .1,
     )
 
 pub unvoiced-words-spec : {M : Type 1} → statement M
-unvoiced-words-spec = tie.close (tie.spec parity-of-requires parity-of-requires-2 parity-of-requires-3 mul-parity-of add-parity-of parity-of-requires-4 four-words-requires returns)
+unvoiced-words-spec =
+    tie.close (tie.spec parity-of-requires parity-of-requires-2 parity-of-requires-3 mul-parity-of add-parity-of parity-of-requires-4
+    four-words-requires returns)

@@ -39,7 +39,8 @@ all-parity-requires-3 c κs = search needs
 returns : tie.Need-returns
 returns c =
     let u = c .before .before .before .args .u in
-    subst⁻¹ (Claim (c .all-parity .result / 2) u) (c .before .enum-told .given .1) (ap (λ (x : ℕ). x / 2) (c .all-parity .ensures) ∙ parity-is 6 (lit≤ tt) (lit≤ tt) u)
+    subst⁻¹ (Claim (c .all-parity .result / 2) u) (c .before .enum-told .given .1)
+    (ap (λ (x : ℕ). x / 2) (c .all-parity .ensures) ∙ parity-is 6 (lit≤ tt) (lit≤ tt) u)
 
 returns-2 : tie.Need-returns-2
 returns-2 c =
@@ -51,7 +52,8 @@ returns-3 : tie.Need-returns-3
 returns-3 c =
     let u = c .before .before .before .args .u in
     subst⁻¹ (Claim (c .all-parity3 .result) u) (c .before .enum-told3 .given .1)
-    (c .all-parity3 .ensures ∙ ap (λ (x : ℕ). value (parity (bits 4 x))) (sym (mul-one (u % 16))) ∙ sym (div-one (value (parity (bits 4 (u % 16 * 1))))) ∙ parity-is 8 (lit≤ tt) (lit≤ tt) u)
+    (c .all-parity3 .ensures ∙ ap (λ (x : ℕ). value (parity (bits 4 x))) (sym (mul-one (u % 16)))
+    ∙ sym (div-one (value (parity (bits 4 (u % 16 * 1))))) ∙ parity-is 8 (lit≤ tt) (lit≤ tt) u)
 
 pub parity-of-spec : {M : Type 1} → statement M
 parity-of-spec =

@@ -22,7 +22,8 @@ most c = rw (c .pre .0) (length-most (c .args .length))
 parity-gave : (c : tie.After-parity-of) → c .parity-of .result ≡ value (parityOf (c .before .before .args .n) (bits (dataBits (c .before .before .args .n)) (c .before .before .args .word / c .before .data-weight .result)))
 parity-gave c =
     let s = c .before .before in
-    subst (λ (n : ℕ). c .parity-of .result ≡ value (parityOf n (bits (dataBits n) (s .args .word / c .before .data-weight .result)))) (sym (s .pre .0)) (c .parity-of .ensures)
+    subst (λ (n : ℕ). c .parity-of .result ≡ value (parityOf n (bits (dataBits n) (s .args .word / c .before .data-weight .result))))
+    (sym (s .pre .0)) (c .parity-of .ensures)
 
 entry : (c : tie.After-fix-of) → c .fix-of .result ≡ entryOf (fixOf (c .before .before .before .args .n) (syndrome (c .before .before .before .args .n) (bits (c .before .before .before .args .n) (c .before .before .before .args .word))))
 entry c =
@@ -44,8 +45,12 @@ parity-of-requires c κs = search needs
 
 fix-of-requires : tie.Need-fix-of-requires
 fix-of-requires c κs =
-    let s = c .before .before in
-    (least s, most s, outcome.index-lt (s .args .n) (least s) (most s) (s .args .word) (c .before .data-weight .result) (c .parity-of .result) (c .before .data-weight .ensures .0) (parity-gave c))
+    let s = c .before .before in (
+      least s,
+      most s,
+      outcome.index-lt (s .args .n) (least s) (most s) (s .args .word) (c .before .data-weight .result) (c .parity-of .result)
+          (c .before .data-weight .ensures .0) (parity-gave c),
+    )
 
 returns : tie.Need-returns
 returns c =
@@ -66,8 +71,13 @@ cast-flipped c = search needs
 
 flipped-requires : tie.Need-flipped-requires
 flipped-requires c κs =
-    let s = c .before .before .before .before .before in
-    (least s, most s, outcome.bit-lt (s .args .n) (least s) (most s) (s .args .word) (s .pre .1) (c .before .before .fix-of .result) (entry (c .before .before)) (c .before .if1 .left) (c .if2 .left), s .pre .1)
+    let s = c .before .before .before .before .before in (
+      least s,
+      most s,
+      outcome.bit-lt (s .args .n) (least s) (most s) (s .args .word) (s .pre .1) (c .before .before .fix-of .result)
+          (entry (c .before .before)) (c .before .if1 .left) (c .if2 .left),
+      s .pre .1,
+    )
 
 div-t8 : tie.Need-div-t8
 div-t8 c = search needs
@@ -76,8 +86,11 @@ returns-3 : tie.Need-returns-3
 returns-3 c =
     let s = c .before .before .before .before .before .before in
     ap (λ (x : ℕ). Read (c .flipped .result / x) 1) (c .before .before .before .before .before .data-weight .ensures .0)
-    ∙ outcome.flips (s .args .n) (least s) (most s) (s .args .word) (s .pre .1) (c .before .before .before .fix-of .result) (entry (c .before .before .before)) (c .before .before .if1 .left) (c .before .if2 .left)
+    ∙ outcome.flips (s .args .n) (least s) (most s) (s .args .word) (s .pre .1) (c .before .before .before .fix-of .result)
+    (entry (c .before .before .before)) (c .before .before .if1 .left) (c .before .if2 .left)
     (c .flipped .result) (c .flipped .ensures)
 
 pub decode-word-spec : {M : Type 1} → statement M
-decode-word-spec = tie.close (tie.spec data-weight-requires rem-syndrome div-parity-of parity-of-requires fix-of-requires returns div-t11 returns-2 cast-flipped flipped-requires div-t8 returns-3)
+decode-word-spec =
+    tie.close (tie.spec data-weight-requires rem-syndrome div-parity-of parity-of-requires fix-of-requires returns div-t11 returns-2 cast-flipped
+    flipped-requires div-t8 returns-3)

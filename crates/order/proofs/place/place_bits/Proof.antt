@@ -26,13 +26,23 @@ loop-holds : tie.Need-loop-holds Inv-loop μ-loop
 loop-holds c = (search needs, refl)
 
 mul-placed : tie.Need-mul-placed Inv-loop μ-loop
-mul-placed c = omega (arith, gather-lt (at (c .before .before .args .word)) (c .before .loop .t) (c .before .loop .placed) (c .before .loop .inv .0) (c .before .loop .inv .1))
+mul-placed c =
+    omega (
+      arith,
+      gather-lt (at (c .before .before .args .word)) (c .before .loop .t) (c .before .loop .placed) (c .before .loop .inv .0)
+          (c .before .loop .inv .1),
+    )
 
 placed-bit-requires : tie.Need-placed-bit-requires Inv-loop μ-loop
 placed-bit-requires c κs = search needs
 
 add-placed : tie.Need-add-placed Inv-loop μ-loop
-add-placed c = omega (arith, gather-lt (at (c .before .before .before .args .word)) (c .before .before .loop .t) (c .before .before .loop .placed) (c .before .before .loop .inv .0) (c .before .before .loop .inv .1))
+add-placed c =
+    omega (
+      arith,
+      gather-lt (at (c .before .before .before .args .word)) (c .before .before .loop .t) (c .before .before .loop .placed)
+          (c .before .before .loop .inv .0) (c .before .before .loop .inv .1),
+    )
 
 add-t : tie.Need-add-t Inv-loop μ-loop
 add-t c = search needs
@@ -46,11 +56,17 @@ loop-again c =
     let word = c .before .before .before .args .word in
     let h : L .t < 54 = omega arith in (
       search needs,
-      gather-more (at word) (L .t) (L .placed) (c .placed-bit .result) (L .inv .1) (c .placed-bit .ensures .0 ∙ ap bitNum (sym (placed-below defaultOrder (wordBit 54 word) (L .t) h))),
+      gather-more (at word) (L .t) (L .placed) (c .placed-bit .result) (L .inv .1)
+          (c .placed-bit .ensures .0 ∙ ap bitNum (sym (placed-below defaultOrder (wordBit 54 word) (L .t) h))),
     )
 
 mul-seven-bytes : tie.Need-mul-seven-bytes Inv-loop μ-loop
-mul-seven-bytes c = omega (arith, gather-lt (at (c .before .before .args .word)) (c .before .loop .t) (c .before .loop .placed) (c .before .loop .inv .0) (c .before .loop .inv .1))
+mul-seven-bytes c =
+    omega (
+      arith,
+      gather-lt (at (c .before .before .args .word)) (c .before .loop .t) (c .before .loop .placed) (c .before .loop .inv .0)
+          (c .before .loop .inv .1),
+    )
 
 seven-bytes-requires : tie.Need-seven-bytes-requires Inv-loop μ-loop
 seven-bytes-requires c κs = search needs

@@ -15,7 +15,10 @@ use Rattle.order.proofs.place.placed_bit.Statement.{statement}
 use Rattle.order.proofs.place.placed_bit.Tie as tie
 
 abbrev table : List ℕ
-table = 0 ∷ 31 ∷ 8 ∷ 39 ∷ 16 ∷ 47 ∷ 24 ∷ 1 ∷ 32 ∷ 9 ∷ 40 ∷ 17 ∷ 48 ∷ 25 ∷ 2 ∷ 33 ∷ 10 ∷ 41 ∷ 18 ∷ 49 ∷ 26 ∷ 3 ∷ 34 ∷ 11 ∷ 42 ∷ 19 ∷ 50 ∷ 27 ∷ 4 ∷ 35 ∷ 12 ∷ 43 ∷ 20 ∷ 51 ∷ 28 ∷ 5 ∷ 36 ∷ 13 ∷ 44 ∷ 21 ∷ 52 ∷ 29 ∷ 6 ∷ 37 ∷ 14 ∷ 45 ∷ 22 ∷ 53 ∷ 30 ∷ 7 ∷ 38 ∷ 15 ∷ 46 ∷ 23 ∷ []
+table =
+    0 ∷ 31 ∷ 8 ∷ 39 ∷ 16 ∷ 47 ∷ 24 ∷ 1 ∷ 32 ∷ 9 ∷ 40 ∷ 17 ∷ 48 ∷ 25 ∷ 2 ∷ 33 ∷ 10 ∷ 41 ∷ 18 ∷ 49
+    ∷ 26 ∷ 3 ∷ 34 ∷ 11 ∷ 42 ∷ 19 ∷ 50 ∷ 27 ∷ 4 ∷ 35 ∷ 12 ∷ 43 ∷ 20 ∷ 51 ∷ 28 ∷ 5 ∷ 36 ∷ 13 ∷ 44 ∷ 21
+    ∷ 52 ∷ 29 ∷ 6 ∷ 37 ∷ 14 ∷ 45 ∷ 22 ∷ 53 ∷ 30 ∷ 7 ∷ 38 ∷ 15 ∷ 46 ∷ 23 ∷ []
 
 table-is : table ≡ defaultOrder
 unfolding placeOf orderBy defaultOrder
@@ -41,8 +44,11 @@ returns c =
     let word = c .args .word in
     let t = c .args .t in
     let j = getD table t 0 in
-    let e : 53 - j ≡ 54 - suc j = omega arith in
-    (ap (λ (k : ℕ). word / 2 ^ k % 2) e ∙ word-bit 54 word j (table-lt t (c .pre)) ∙ ap (λ (l : List ℕ). bitNum (wordBit 54 word (getD l t 0))) table-is, search needs)
+    let e : 53 - j ≡ 54 - suc j = omega arith in (
+      ap (λ (k : ℕ). word / 2 ^ k % 2) e ∙ word-bit 54 word j (table-lt t (c .pre))
+          ∙ ap (λ (l : List ℕ). bitNum (wordBit 54 word (getD l t 0))) table-is,
+      search needs,
+    )
 
 pub placed-bit-spec : {M : Type 1} → statement M
 placed-bit-spec = tie.close (tie.spec array-read-result sub-result cast-result shr-result returns)

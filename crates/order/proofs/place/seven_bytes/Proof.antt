@@ -32,7 +32,8 @@ cast-t21 c = search needs
 returns : tie.Need-returns
 returns c i =
     let w = c .args .word in
-    sym (word-part 0 8 48 w) i ∷ sym (word-part 8 8 40 w) i ∷ sym (word-part 16 8 32 w) i ∷ sym (word-part 24 8 24 w) i ∷ sym (word-part 32 8 16 w) i ∷ sym (word-part 40 8 8 w) i
+    sym (word-part 0 8 48 w) i ∷ sym (word-part 8 8 40 w) i ∷ sym (word-part 16 8 32 w) i ∷ sym (word-part 24 8 24 w) i ∷ sym
+    (word-part 32 8 16 w) i ∷ sym (word-part 40 8 8 w) i
     ∷ sym (word-part 48 8 0 w ∙ ap (λ (x : ℕ). x % 256) (div-one w)) i ∷ []
 
 pub seven-bytes-spec : {M : Type 1} → statement M
