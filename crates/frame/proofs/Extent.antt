@@ -1,12 +1,12 @@
 -- What is read hangs on logical bits 0 to 52 alone: the sync bit plays no part.
 -- Assumes nothing.
 use mathlib.Core.Path.{_≡_, refl, ap, _∙_}
-use mathlib.Core.Bool.{Bool, cond}
+use mathlib.Core.Bool.{Bool}
 use mathlib.Core.List.{List, _++_}
 use Prim.Native.Nat.{ℕ, _+_, _*_, _/_, _%_, _≤_, _<_}
 use native.Mathlib.Omega.{arith}
-use lib.Dec.{eqb, lit≤}
-use Rattle.bits.specs.Bits.{ones, value, cut}
+use lib.Dec.{lit≤}
+use Rattle.bits.specs.Bits.{value, cut}
 use Rattle.bits.proofs.Cut.{cut-ext}
 use Rattle.pitch.specs.Pitch.{classOf}
 use Rattle.pitch.specs.declared.PitchClass.{PitchClass}
@@ -40,8 +40,8 @@ module _ (g h : ℕ → Bool) (e : (j : ℕ) → j < 53 → g j ≡ h j) where
     aperiodic = value (cuts 27 1 (lit≤ tt) i);
   }
 
-  repaired-ext : pitchRepaired g ≡ pitchRepaired h
-  repaired-ext = ap (λ (p : List Bool). cond (eqb (ones p) 1) 1 0) (cuts 28 7 (lit≤ tt))
+  repaired-ext : pitchRepaired (pitchBits g) ≡ pitchRepaired (pitchBits h)
+  repaired-ext = ap pitchRepaired (cuts 28 7 (lit≤ tt))
 
   words-ext : (a b c d : Decoded) → fromWords g a b c d ≡ fromWords h a b c d
   words-ext word.Erased b c d = refl

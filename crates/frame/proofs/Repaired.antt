@@ -60,11 +60,11 @@ module _ (x : Indices) (sync : Bool) (fl : ℕ → Bool) where
     unfolding words others unvoicedWords logical
     word-d = repair 7 (lit≤ tt) (lit≤ tt) (dataD x) (cut fl 21 7) refl refl (k .d)
 
-    pitch-count : pitchRepaired got ≡ ones (cut fl 28 7)
+    pitch-count : pitchRepaired (pitchBits got) ≡ ones (cut fl 28 7)
     unfolding words others unvoicedWords logical
     pitch-count = ap (λ (n : ℕ). cond (eqb n 1) 1 0) (unvoiced-ones (cut fl 28 7) refl (k .pitch)) ∙ single (ones (cut fl 28 7)) (k .pitch)
 
-    flips-are : pitchRepaired got + ones (cut fl 0 8) + ones (cut fl 8 6) + ones (cut fl 14 7) + ones (cut fl 21 7) ≡ protectedFlips fl
+    flips-are : pitchRepaired (pitchBits got) + ones (cut fl 0 8) + ones (cut fl 8 6) + ones (cut fl 14 7) + ones (cut fl 21 7) ≡ protectedFlips fl
     flips-are =
         ap (λ (n : ℕ). n + ones (cut fl 0 8) + ones (cut fl 8 6) + ones (cut fl 14 7) + ones (cut fl 21 7)) pitch-count
         ∙ sym (ones-five (cut fl 0 8) (cut fl 8 6) (cut fl 14 7) (cut fl 21 7) (cut fl 28 7))

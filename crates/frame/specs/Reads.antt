@@ -36,8 +36,8 @@ abbrev pub voicingOf : (ℕ → Bool) → ℕ → Voicing
 voicingOf g i = record { pitch = i; bandpass = value (cut g 4 4); fourier = value (cut g 11 3 ++ (cut g 18 3 ++ cut g 25 2)); aperiodic = value (cut g 27 1) }
 
 -- the repaired count of an unvoiced pitch code: 1 where it has a single one
-abbrev pub pitchRepaired : (ℕ → Bool) → ℕ
-pitchRepaired g = cond (eqb (ones (pitchBits g)) 1) 1 0
+abbrev pub pitchRepaired : List Bool → ℕ
+pitchRepaired p = cond (eqb (ones p) 1) 1 0
 
 -- an unvoiced frame from its four words: erased with any of them, else their data, and the repairs added up
 abbrev pub fromWords : (ℕ → Bool) → Decoded → Decoded → Decoded → Decoded → Reading
@@ -45,7 +45,7 @@ fromWords g word.Erased b c d = Erased
 fromWords g (word.Read a i) word.Erased c d = Erased
 fromWords g (word.Read a i) (word.Read b j) word.Erased d = Erased
 fromWords g (word.Read a i) (word.Read b j) (word.Read c k) word.Erased = Erased
-fromWords g (word.Read a i) (word.Read b j) (word.Read c k) (word.Read d l) = Accepted (Unvoiced (indicesOf g a b c d)) (pitchRepaired g + i + j + k + l)
+fromWords g (word.Read a i) (word.Read b j) (word.Read c k) (word.Read d l) = Accepted (Unvoiced (indicesOf g a b c d)) (pitchRepaired (pitchBits g) + i + j + k + l)
 
 -- by the class of the pitch code: only under an unvoiced one are the words checked, A, then B, C and D; a voiced frame is read as it stands
 abbrev pub byClass : (ℕ → Bool) → PitchClass → Reading

@@ -38,7 +38,7 @@ fn other_bits(x: Indices, code: u8, sync: bool) -> u64
     ensures { λ r. ⌜ (r ≡ value (others x (bits 7 code) sync)) × (r < 2 ^ 26) ⌝ }
 {
     let spectrum = (x.l2 as u64 * 64 + x.l3 as u64) * 64 + x.l4 as u64;
-    (code as u64 * 262144 + spectrum) * 2 + bit_number(sync)
+    (code as u64 * 0x4_0000 + spectrum) * 2 + bit_number(sync)
 }
 
 // What a voiced set has in the parity places of its words.
@@ -63,14 +63,17 @@ fn unvoiced_words(x: Indices) -> u64
     four_words(x, a, b, c, d)
 }
 
+// 2 to the 26th: it moves the words above the other bits.
+const ABOVE: u64 = 0x400_0000;
+
 // All 54 bits.
 pub(crate) fn logical_word(set: ParameterSet, sync: bool) -> u64
     requires { ⌜ sendable set ≡ true ⌝ }
     ensures { λ r. ⌜ r ≡ value (logical set sync) ⌝ }
 {
     match set {
-        ParameterSet::Unvoiced(x) => unvoiced_words(x) * 67108864 + other_bits(x, 0, sync),
-        ParameterSet::Voiced(x, v) => voiced_words(x, v) * 67108864
+        ParameterSet::Unvoiced(x) => unvoiced_words(x) * ABOVE + other_bits(x, 0, sync),
+        ParameterSet::Voiced(x, v) => voiced_words(x, v) * ABOVE
             + other_bits(x, code_of(v.pitch), sync),
     }
 }

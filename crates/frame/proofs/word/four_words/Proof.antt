@@ -1,69 +1,70 @@
 -- `frame::word::four_words` meets its contract: the parts are joined from the first on. Assumes nothing.
 use mathlib.Core.Path.{sym}
+use native.Mathlib.Omega.{arith}
 use borrow.Author.Needs.{needs}
 use Rattle.frame.proofs.Numbers.{words-value}
 use Rattle.frame.proofs.word.four_words.Statement.{statement}
 use Rattle.frame.proofs.word.four_words.Tie as tie
 
 mul-a : tie.Need-mul-a
-mul-a c = search needs
+mul-a c = omega arith
 
 add-a : tie.Need-add-a
-add-a c = search needs
+add-a c = omega arith
 
 mul-b : tie.Need-mul-b
-mul-b c = search needs
+mul-b c = omega arith
 
 add-b : tie.Need-add-b
-add-b c = search needs
+add-b c = omega arith
 
 mul-c : tie.Need-mul-c
-mul-c c = search needs
+mul-c c = omega arith
 
 add-c : tie.Need-add-c
-add-c c = search needs
+add-c c = omega arith
 
 mul-d : tie.Need-mul-d
-mul-d c = search needs
+mul-d c = omega arith
 
 add-d : tie.Need-add-d
-add-d c = search needs
+add-d c = omega arith
 
 mul-d-2 : tie.Need-mul-d-2
-mul-d-2 c = search needs
+mul-d-2 c = omega arith
 
 add-d-2 : tie.Need-add-d-2
-add-d-2 c = search needs
+add-d-2 c = omega arith
 
 cast-result : tie.Need-cast-result
-cast-result c = search needs
+cast-result c = omega arith
 
 mul-result : tie.Need-mul-result
-mul-result c = search needs
+mul-result c = omega arith
 
 cast-result-2 : tie.Need-cast-result-2
-cast-result-2 c = search needs
+cast-result-2 c = omega arith
 
 add-result : tie.Need-add-result
-add-result c = search needs
+add-result c = omega arith
 
 mul-result-2 : tie.Need-mul-result-2
-mul-result-2 c = search needs
+mul-result-2 c = omega arith
 
 cast-result-3 : tie.Need-cast-result-3
-cast-result-3 c = search needs
+cast-result-3 c = omega arith
 
 add-result-2 : tie.Need-add-result-2
-add-result-2 c = search needs
+add-result-2 c = omega arith
 
 mul-result-3 : tie.Need-mul-result-3
-mul-result-3 c = search needs
+mul-result-3 c = omega arith
 
 cast-result-4 : tie.Need-cast-result-4
-cast-result-4 c = search needs
+cast-result-4 c = omega arith
 
 add-result-3 : tie.Need-add-result-3
-add-result-3 c = search needs
+add-result-3 c = omega arith
 
 returns : tie.Need-returns
 returns c =

@@ -1,46 +1,47 @@
 -- `frame::word::other_bits` meets its contract: the parts are joined from the first on. Assumes nothing.
 use mathlib.Core.Path.{sym, ap, _∙_}
 use Prim.Native.Nat.{ℕ, _+_, _*_}
+use native.Mathlib.Omega.{arith}
 use borrow.Author.Needs.{needs}
 use Rattle.frame.proofs.Numbers.{others-value}
 use Rattle.frame.proofs.word.other_bits.Statement.{statement}
 use Rattle.frame.proofs.word.other_bits.Tie as tie
 
 cast-spectrum : tie.Need-cast-spectrum
-cast-spectrum c = search needs
+cast-spectrum c = omega arith
 
 mul-spectrum : tie.Need-mul-spectrum
-mul-spectrum c = search needs
+mul-spectrum c = omega arith
 
 cast-spectrum-2 : tie.Need-cast-spectrum-2
-cast-spectrum-2 c = search needs
+cast-spectrum-2 c = omega arith
 
 add-spectrum : tie.Need-add-spectrum
-add-spectrum c = search needs
+add-spectrum c = omega arith
 
 mul-spectrum-2 : tie.Need-mul-spectrum-2
-mul-spectrum-2 c = search needs
+mul-spectrum-2 c = omega arith
 
 cast-spectrum-3 : tie.Need-cast-spectrum-3
-cast-spectrum-3 c = search needs
+cast-spectrum-3 c = omega arith
 
 add-spectrum-2 : tie.Need-add-spectrum-2
-add-spectrum-2 c = search needs
+add-spectrum-2 c = omega arith
 
 mul-result : tie.Need-mul-result
-mul-result c = search needs
+mul-result c = omega arith
 
 add-result : tie.Need-add-result
-add-result c = search needs
+add-result c = omega arith
 
 mul-result-2 : tie.Need-mul-result-2
-mul-result-2 c = search needs
+mul-result-2 c = omega arith
 
 bit-number-requires : tie.Need-bit-number-requires
 bit-number-requires c κs = search needs
 
 add-result-2 : tie.Need-add-result-2
-add-result-2 c = search needs
+add-result-2 c = omega arith
 
 returns : tie.Need-returns
 returns c =
