@@ -56,7 +56,7 @@ fn output_agrees(r: [u8; 32], out: [u8; 16]) -> bool {
     same
 }
 
-pub fn pack_agrees(r: [u8; 32]) -> bool {
+pub(crate) fn pack_agrees(r: [u8; 32]) -> bool {
     let room = r[13] as usize;
     if 16 < room {
         return false;
@@ -66,7 +66,7 @@ pub fn pack_agrees(r: [u8; 32]) -> bool {
     answer_agrees(r, answer) & output_agrees(r, out)
 }
 
-pub fn class_agrees(r: [u8; 32]) -> bool {
+pub(crate) fn class_agrees(r: [u8; 32]) -> bool {
     match pitch::classify(r[1]) {
         ClassAnswer::Refused(n) => (n != 0) & (r[2] == n),
         ClassAnswer::Class(class) => match class {
@@ -77,7 +77,7 @@ pub fn class_agrees(r: [u8; 32]) -> bool {
     }
 }
 
-pub fn code_agrees(r: [u8; 32]) -> bool {
+pub(crate) fn code_agrees(r: [u8; 32]) -> bool {
     match pitch::encode(r[1]) {
         CodeAnswer::Refused(n) => (n != 0) & (r[2] == n),
         CodeAnswer::Code(code) => (r[2] == 0) & (r[3] == code),
@@ -95,13 +95,13 @@ fn length_of(r: [u8; 32]) -> WordLength {
     WordLength::Eight
 }
 
-pub fn word_agrees(r: [u8; 32]) -> bool {
+pub(crate) fn word_agrees(r: [u8; 32]) -> bool {
     match hamming::decode(length_of(r), r[2]) {
         Decoded::Erased => r[3] == 1,
         Decoded::Read(data, repaired) => (r[3] == 0) & (r[4] == data) & (r[5] == repaired),
     }
 }
 
-pub fn parity_agrees(r: [u8; 32]) -> bool {
+pub(crate) fn parity_agrees(r: [u8; 32]) -> bool {
     hamming::parity_of(length_of(r), r[2]) == r[3]
 }

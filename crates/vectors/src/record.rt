@@ -3,7 +3,7 @@ ghost use Prim.Native.Nat.{_+_, _*_, _/_, _<_, _≤_};
 ghost use lib.ListN.{length};
 
 // Vector i of a slice.
-pub fn at(s: &[u8], i: usize) -> [u8; 32]
+pub(crate) fn at(s: &[u8], i: usize) -> [u8; 32]
     requires { ⌜ i < length (now s) / 32 ⌝ }
 {
     let mut r = [0u8; 32];
@@ -14,7 +14,7 @@ pub fn at(s: &[u8], i: usize) -> [u8; 32]
 }
 
 // Two bytes as a number, the high one first.
-pub fn wide(high: u8, low: u8) -> u32
+pub(crate) fn wide(high: u8, low: u8) -> u32
     ensures { λ r. ⌜ r < 65536 ⌝ }
 {
     high as u32 * 256 + low as u32
