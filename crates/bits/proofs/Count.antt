@@ -1,4 +1,4 @@
--- The count of ones, and sums modulo 2.
+-- The count of ones, and the length after flips.
 -- Assumes nothing.
 use mathlib.Core.Path.{_≡_, refl, sym, ap, _∙_}
 use mathlib.Core.Bool.{Bool, true, false}
@@ -7,12 +7,7 @@ use Prim.Native.Nat.{suc, _+_, _≤_}
 use native.Mathlib.Nat.{zero-add, suc-add}
 use native.Mathlib.Omega.{arith}
 use lib.ListN.{length}
-use Rattle.bits.specs.Bits.{_⊻_, _⊕_, bitNum, ones}
-
--- a bit is at most 1
-pub bitNum-le : (b : Bool) → bitNum b ≤ 1
-bitNum-le true = omega arith
-bitNum-le false = omega arith
+use Rattle.bits.specs.Bits.{_⊕_, ones}
 
 -- no more ones than bits
 pub ones-le : (l : List Bool) → ones l ≤ length l
@@ -25,13 +20,6 @@ pub ones-append : (l m : List Bool) → ones (l ++ m) ≡ ones l + ones m
 ones-append [] m = sym (zero-add (ones m))
 ones-append (true ∷ l) m = ap suc (ones-append l m) ∙ sym (suc-add (ones l) (ones m))
 ones-append (false ∷ l) m = ones-append l m
-
--- what two bits differ by takes one to the other
-pub flip-back : (a b : Bool) → b ⊻ (a ⊻ b) ≡ a
-flip-back true true = refl
-flip-back true false = refl
-flip-back false true = refl
-flip-back false false = refl
 
 -- flips keep the length
 pub length-⊕ : (l m : List Bool) → length (l ⊕ m) ≡ length l

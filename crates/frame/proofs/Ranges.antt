@@ -10,6 +10,7 @@ use Rattle.frame.specs.declared.Voicing.{Voicing}
 use Rattle.frame.specs.declared.ParameterSet.{ParameterSet}
 use Rattle.frame.specs.declared.ParameterSet.the-variants.{Unvoiced, Voiced}
 
+-- the ranges of the six indices of every set, as facts
 pub record IndexRanges (x : Indices) : Type 0 where
   pub l1 : x .l1 < 128
   pub l2 : x .l2 < 64
@@ -18,13 +19,14 @@ pub record IndexRanges (x : Indices) : Type 0 where
   pub g2 : x .g2 < 32
   pub g1 : x .g1 < 8
 
+-- and of the four of a voiced set
 pub record VoicingRanges (v : Voicing) : Type 0 where
   pub pitch : v .pitch < 99
   pub bandpass : v .bandpass < 16
   pub fourier : v .fourier < 256
   pub aperiodic : v .aperiodic < 2
 
--- the first of two tests, both passed, and the rest
+-- indices that pass the test are in their ranges
 pub index-ranges : (x : Indices) → T (indicesFit x) → IndexRanges x
 index-ranges x t =
     let t4 = and-left (ltb (x .l1) 128 && ltb (x .l2) 64 && ltb (x .l3) 64 && ltb (x .l4) 64 && ltb (x .g2) 32) (ltb (x .g1) 8) t in
@@ -40,6 +42,7 @@ index-ranges x t =
       g1 = ltb→lt (x .g1) 8 (and-right (ltb (x .l1) 128 && ltb (x .l2) 64 && ltb (x .l3) 64 && ltb (x .l4) 64 && ltb (x .g2) 32) (ltb (x .g1) 8) t);
     }
 
+-- so are those of the voicing
 pub voicing-ranges : (v : Voicing) → T (voicingFits v) → VoicingRanges v
 voicing-ranges v t =
     let t2 = and-left (ltb (v .pitch) 99 && ltb (v .bandpass) 16 && ltb (v .fourier) 256) (ltb (v .aperiodic) 2) t in

@@ -39,6 +39,10 @@ module _ (x : Indices) (sync : Bool) (fl : ℕ → Bool) where
   abbrev got : ℕ → Bool
   got = damaged (logicalOf (Unvoiced x) sync) fl
 
+  -- the indices read: L2 to L4 as received, the others as sent
+  abbrev pub seen : Indices
+  seen = record { l1 = x .l1; l2 = value (cut got 35 6); l3 = value (cut got 41 6); l4 = value (cut got 47 6); g2 = x .g2; g1 = x .g1 }
+
   class-stays : ones (cut fl 28 7) ≤ 1 → classOf (pitchBits got) ≡ class.Unvoiced
   unfolding words others unvoicedWords logical
   class-stays h = unvoiced-stays (cut fl 28 7) refl h
@@ -68,10 +72,6 @@ module _ (x : Indices) (sync : Bool) (fl : ℕ → Bool) where
     flips-are =
         ap (λ (n : ℕ). n + ones (cut fl 0 8) + ones (cut fl 8 6) + ones (cut fl 14 7) + ones (cut fl 21 7)) pitch-count
         ∙ sym (ones-five (cut fl 0 8) (cut fl 8 6) (cut fl 14 7) (cut fl 21 7) (cut fl 28 7))
-
-    -- the indices read: L2 to L4 as received, the others as sent
-    abbrev pub seen : Indices
-    seen = record { l1 = x .l1; l2 = value (cut got 35 6); l3 = value (cut got 41 6); l4 = value (cut got 47 6); g2 = x .g2; g1 = x .g1 }
 
     pub correctable-read : IndexRanges x → read got ≡ Accepted (Unvoiced seen) (protectedFlips fl)
     unfolding read

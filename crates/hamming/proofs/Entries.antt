@@ -10,7 +10,7 @@ use lib.ListN.{length, getD}
 use Rattle.bits.specs.Bits.{bits, same}
 use Rattle.bits.proofs.Every.{every, every-at, and-left}
 use Rattle.hamming.specs.Word.{checkBits, column, Fix, stand, flip, erase, fixOf}
-use Rattle.hamming.specs.Table.{entryOf}
+use Rattle.hamming.specs.Table.{standMark, eraseMark, entryOf}
 use Rattle.hamming.proofs.Lengths.{lengths-at}
 use Rattle.hamming.proofs.Syndromes.{explains, every-syndrome}
 
@@ -38,29 +38,29 @@ module _ (n : ℕ) (l : 6 ≤ n) (m : n ≤ 8) (z : List Bool) (h : length z ≡
   abbrev asked : Fix
   asked = fixOf n z
 
-  -- the entry 9 asks for an erasure
-  pub entry-erase : entryOf asked ≡ 9 → asked ≡ erase
+  -- the mark of an erasure asks for one
+  pub entry-erase : entryOf asked ≡ eraseMark → asked ≡ erase
   entry-erase e = go (fixOf n z) (every-syndrome n l m z h) e
     where
-      go : (f : Fix) → T (explains n z f) → entryOf f ≡ 9 → f ≡ erase
+      go : (f : Fix) → T (explains n z f) → entryOf f ≡ eraseMark → f ≡ erase
       go stand t e = absurd (omega arith)
       go (flip k) t e = absurd (omega (arith, flip-lt n k z t))
       go erase t e = refl
 
-  -- the entry 8 lets the word stand
-  pub entry-stand : entryOf asked ≡ 8 → asked ≡ stand
+  -- the mark of a word that stands lets it stand
+  pub entry-stand : entryOf asked ≡ standMark → asked ≡ stand
   entry-stand e = go (fixOf n z) (every-syndrome n l m z h) e
     where
-      go : (f : Fix) → T (explains n z f) → entryOf f ≡ 8 → f ≡ stand
+      go : (f : Fix) → T (explains n z f) → entryOf f ≡ standMark → f ≡ stand
       go stand t e = refl
       go (flip k) t e = absurd (omega (arith, flip-lt n k z t))
       go erase t e = absurd (omega arith)
 
   -- any other entry is the bit to flip
-  pub entry-flip : (entryOf asked ≡ 9 → ⊥) → (entryOf asked ≡ 8 → ⊥) → (asked ≡ flip (entryOf asked)) × (entryOf asked < n)
+  pub entry-flip : (entryOf asked ≡ eraseMark → ⊥) → (entryOf asked ≡ standMark → ⊥) → (asked ≡ flip (entryOf asked)) × (entryOf asked < n)
   entry-flip a b = go (fixOf n z) (every-syndrome n l m z h) a b
     where
-      go : (f : Fix) → T (explains n z f) → (entryOf f ≡ 9 → ⊥) → (entryOf f ≡ 8 → ⊥) → (f ≡ flip (entryOf f)) × (entryOf f < n)
+      go : (f : Fix) → T (explains n z f) → (entryOf f ≡ eraseMark → ⊥) → (entryOf f ≡ standMark → ⊥) → (f ≡ flip (entryOf f)) × (entryOf f < n)
       go stand t a b = absurd (b refl)
       go (flip k) t a b = (refl, flip-lt n k z t)
       go erase t a b = absurd (a refl)

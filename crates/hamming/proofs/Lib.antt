@@ -1,5 +1,6 @@
 pub mod Lengths
 pub mod Repairs
+pub mod Columns
 pub mod Syndromes
 pub mod Sums
 pub mod Words

@@ -7,7 +7,7 @@ use Prim.Native.Nat.{ℕ, _/_, _%_, _^_, _≤_, _<_}
 use lib.Bits.{bitXor, xor-lt}
 use Rattle.bits.specs.Bits.{value, bits}
 use Rattle.hamming.specs.Word.{checkBits, dataBits, parityOf, syndrome, flipAt, flip, fixOf, mend, decode}
-use Rattle.hamming.specs.Table.{entryOf}
+use Rattle.hamming.specs.Table.{standMark, eraseMark, entryOf}
 use Rattle.hamming.specs.declared.Decoded.the-variants.{Read, Erased}
 use Rattle.hamming.proofs.Words.{expected, expected-lt, received-lt, syndrome-length, syndrome-is, data-value, data-flipped}
 use Rattle.hamming.proofs.Entries.{entry-erase, entry-stand, entry-flip}
@@ -24,16 +24,16 @@ module _ (n : ℕ) (l : 6 ≤ n) (m : n ≤ 8) (w : ℕ) where
 
   module _ (h : w < 2 ^ n) (fix : ℕ) (e : fix ≡ entryOf (fixOf n (syndrome n (bits n w)))) where
     -- the mark of an erasure
-    pub erased : fix ≡ 9 → Erased ≡ decode n (bits n w)
+    pub erased : fix ≡ eraseMark → Erased ≡ decode n (bits n w)
     unfolding decode
     erased f = sym (ap (mend n (bits n w)) (entry-erase n l m _ (syndrome-length n l m w) (sym e ∙ f)))
 
     -- the mark of a word that stands
-    pub stands : fix ≡ 8 → Read (w / 2 ^ checkBits n) 0 ≡ decode n (bits n w)
+    pub stands : fix ≡ standMark → Read (w / 2 ^ checkBits n) 0 ≡ decode n (bits n w)
     unfolding decode
     stands f = ap (λ (x : ℕ). Read x 0) (sym (data-value n l m w h)) ∙ sym (ap (mend n (bits n w)) (entry-stand n l m _ (syndrome-length n l m w) (sym e ∙ f)))
 
-    module _ (a : fix ≡ 9 → ⊥) (b : fix ≡ 8 → ⊥) where
+    module _ (a : fix ≡ eraseMark → ⊥) (b : fix ≡ standMark → ⊥) where
       asks : (fixOf n (syndrome n (bits n w)) ≡ flip (entryOf (fixOf n (syndrome n (bits n w))))) × (entryOf (fixOf n (syndrome n (bits n w))) < n)
       asks = entry-flip n l m _ (syndrome-length n l m w) (λ f. a (e ∙ f)) (λ f. b (e ∙ f))
 

@@ -1,4 +1,5 @@
--- Repair, once over the word length: at most one flip in a sent word gives its data back and is counted; exactly two flips in the word of eight bits erase it.
+-- Repair, once over the word length: at most one flip in a sent word gives its data back and is counted;
+-- exactly two flips in the word of eight bits erase it.
 -- Assumes nothing.
 use mathlib.Core.Path.{_≡_, refl, ap₂}
 use mathlib.Core.Bool.{Bool, true, false, _&&_}
@@ -30,6 +31,7 @@ sameRead-eq (Read a k) Erased t = absurd t
 sameRead-eq Erased (Read b j) t = absurd t
 sameRead-eq Erased Erased t = refl
 
+-- the data d with the flips e come back, and the flips are counted
 repairs : ℕ → List Bool → List Bool → Bool
 repairs n d e = sameRead (decode n (encode n d ⊕ e)) (Read (value d) (ones e))
 
@@ -44,6 +46,7 @@ repair n l m d e hd he h =
     sameRead-eq (decode n (encode n d ⊕ e)) (Read (value d) (ones e))
     (patterns-at 1 n (repairs n d) (words-at (dataBits n) (λ d. patterns 1 n (repairs n d)) (lengths-at allRepairs tt n l m) d hd) e he h)
 
+-- the data d with two flips in the word of eight bits are erased
 erases : List Bool → List Bool → Bool
 erases d e = implies (eqb (ones e) 2) (sameRead (decode 8 (encode 8 d ⊕ e)) Erased)
 

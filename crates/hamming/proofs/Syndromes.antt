@@ -7,27 +7,18 @@ use mathlib.Core.List.{List, [], _∷_}
 use Prim.Native.Nat.{ℕ, _%_, _≤_, _<_}
 use lib.Dec.{T, eqb, eqb→eq, ltb}
 use lib.ListN.{length}
-use Rattle.bits.specs.Bits.{ones, same, cut}
+use borrow.Author.Tests.{eq-eqb, ne-eqb}
+use Rattle.bits.specs.Bits.{ones, same}
 use Rattle.bits.proofs.Every.{every, every-at}
 use Rattle.bits.proofs.Patterns.{words, words-at}
 use Rattle.hamming.specs.Word.{checkBits, column, parityOf, Fix, stand, flip, erase, fixOf}
 use Rattle.hamming.proofs.Lengths.{lengths-at}
 
--- the columns are those of the parity matrices of 5.4, then one for each parity bit
-pub columns-eight : cut (column 8) 0 8 ≡
-    (true ∷ true ∷ false ∷ true ∷ []) ∷ (true ∷ false ∷ true ∷ true ∷ []) ∷ (false ∷ true ∷ true ∷ true ∷ []) ∷ (true ∷ true ∷ true ∷ false ∷ [])
-    ∷ (true ∷ false ∷ false ∷ false ∷ []) ∷ (false ∷ true ∷ false ∷ false ∷ []) ∷ (false ∷ false ∷ true ∷ false ∷ []) ∷ (false ∷ false ∷ false ∷ true ∷ []) ∷ []
-columns-eight = refl
-
-pub columns-seven : cut (column 7) 0 7 ≡
-    (true ∷ true ∷ false ∷ []) ∷ (true ∷ false ∷ true ∷ []) ∷ (false ∷ true ∷ true ∷ []) ∷ (true ∷ true ∷ true ∷ [])
-    ∷ (true ∷ false ∷ false ∷ []) ∷ (false ∷ true ∷ false ∷ []) ∷ (false ∷ false ∷ true ∷ []) ∷ []
-columns-seven = refl
-
 -- the column of word B's spare: what its fourth data bit would leave
 abbrev pub spareColumn : List Bool
 spareColumn = parityOf 6 (false ∷ false ∷ false ∷ true ∷ [])
 
+-- a request to flip bit k
 isFlip : ℕ → Fix → Bool
 isFlip k stand = false
 isFlip k (flip j) = eqb j k
@@ -46,6 +37,16 @@ flipsBack n k = isFlip k (fixOf n (column n k))
 pub column-flips : (n : ℕ) → 6 ≤ n → n ≤ 8 → (k : ℕ) → k < n → fixOf n (column n k) ≡ flip k
 unfolding flipsBack isFlip fixOf
 column-flips n l m k h = isFlip-eq k _ (every-at n (flipsBack n) (lengths-at (λ n. every n (flipsBack n)) tt n l m) k h)
+
+-- a zero syndrome lets any word stand
+pub zero-stands : (n : ℕ) (z : List Bool) → ones z ≡ 0 → fixOf n z ≡ stand
+unfolding fixOf
+zero-stands n z e = simp (eq-eqb (ones z) 0 e)
+
+-- any other with an even number of ones erases word A
+pub even-erases : (z : List Bool) → (ones z ≡ 0 → ⊥) → ones z % 2 ≡ 0 → fixOf 8 z ≡ erase
+unfolding fixOf
+even-erases z h e = simp (ne-eqb (ones z) 0 h, eq-eqb (ones z % 2) 0 e)
 
 -- what each request says of its syndrome
 abbrev pub explains : ℕ → List Bool → Fix → Bool

@@ -44,13 +44,15 @@ parityOf n d = take (checkBits n) (parity (withSpare d))
 abbrev pub encode : ℕ → List Bool → List Bool
 encode n d = d ++ parityOf n d
 
--- the data of a received word, and its syndrome: received parity plus the parity of the received data
+-- the data of a received word
 abbrev pub dataOf : ℕ → List Bool → List Bool
 dataOf n w = take (dataBits n) w
 
+-- its syndrome: received parity plus the parity of the received data
 abbrev pub syndrome : ℕ → List Bool → List Bool
 syndrome n w = drop (dataBits n) w ⊕ parityOf n (dataOf n w)
 
+-- a word with bit k, counted from the first, flipped
 abbrev pub flipAt : ℕ → List Bool → List Bool
 flipAt k [] = []
 flipAt zero (b ∷ bs) = not b ∷ bs

@@ -1,4 +1,5 @@
--- Frames in any order: what is placed is read back, a frame with clear padding is that of its logical bits, and flips of places are flips of logical bits.
+-- Frames in any order: what is placed is read back, a frame with clear padding is that of its logical bits,
+-- and flips of places are flips of logical bits.
 -- Assumes nothing.
 use mathlib.Core.Path.{_≡_, refl, sym, ap, ap₂, _∙_}
 use mathlib.Core.Bool.{Bool, true, false, cond, _&&_}

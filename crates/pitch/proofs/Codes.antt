@@ -24,6 +24,7 @@ isIndex-eq i Unvoiced t = absurd t
 isIndex-eq i Erased t = absurd t
 isIndex-eq i (Voiced j) t = ap Voiced (eqb→eq j i t)
 
+-- the code of index i is read as i and has seven bits
 returns : ℕ → Bool
 returns i = isIndex i (classOf (bits 7 (codeOf i))) && ltb (codeOf i) 128
 
@@ -41,6 +42,7 @@ pub code-lt : (i : ℕ) → i < 99 → codeOf i < 128
 unfolding returns
 code-lt i h = ltb→lt (codeOf i) 128 (and-right (isIndex i (classOf (bits 7 (codeOf i)))) (ltb (codeOf i) 128) (returns-at i h))
 
+-- a voiced code is sent for its own index
 sends : ℕ → Bool
 sends c = implies (isVoiced c) (eqb (codeOf (index c)) c)
 
@@ -55,6 +57,7 @@ indexFits Unvoiced = true
 indexFits Erased = true
 indexFits (Voiced i) = ltb i 99
 
+-- the same of the class of a list of bits
 fits : List Bool → Bool
 fits p = indexFits (classOf p)
 

@@ -13,6 +13,7 @@ use Rattle.pitch.specs.Pitch.{index, classOf, voicedFrom, codeOf, unvoic
 use Rattle.pitch.specs.declared.PitchClass.{PitchClass}
 use Rattle.pitch.specs.declared.PitchClass.the-variants.{Unvoiced, Erased, Voiced}
 
+-- a class is unvoiced
 abbrev isUnvoiced : PitchClass → Bool
 isUnvoiced Unvoiced = true
 isUnvoiced Erased = false
@@ -23,6 +24,7 @@ isUnvoiced-eq Unvoiced t = refl
 isUnvoiced-eq Erased t = absurd t
 isUnvoiced-eq (Voiced i) t = absurd t
 
+-- the unvoiced code with the flips e is unvoiced and has as many ones as there are flips
 stays : List Bool → Bool
 stays e = isUnvoiced (classOf (bits 7 unvoicedCode ⊕ e)) && eqb (ones (bits 7 unvoicedCode ⊕ e)) (ones e)
 
@@ -46,6 +48,7 @@ notUnvoiced Unvoiced = false
 notUnvoiced Erased = true
 notUnvoiced (Voiced i) = true
 
+-- the code of index i with the flips e is not unvoiced
 keeps : ℕ → List Bool → Bool
 keeps i e = notUnvoiced (classOf (bits 7 (codeOf i) ⊕ e))
 

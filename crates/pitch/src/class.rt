@@ -6,7 +6,7 @@ ghost use Prim.Native.Nat.{_<_};
 ghost use Rattle.bits.specs.Bits.{bits};
 ghost use Rattle.pitch.specs.Pitch.{index, classOf, classAnswer};
 
-// The index in the low seven bits of a number, taken as a voiced code.
+// The index of a seven-bit code, taken as a voiced one.
 fn index_of(code: u8) -> u8
     requires { ⌜ code < 128 ⌝ }
     ensures { λ r. ⌜ r ≡ index code ⌝ }
