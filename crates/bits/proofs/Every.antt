@@ -2,11 +2,13 @@
 -- Assumes nothing.
 use mathlib.Core.Path.{_≡_, sym, subst}
 use mathlib.Core.Bool.{Bool, true, false, _&&_, false≢true}
+use mathlib.Core.List.{List, [], _∷_}
 use Prim.Native.Nat.{ℕ, zero, suc, _<_}
 use native.Mathlib.Nat.{not-suc-le-zero}
 use native.Mathlib.Omega.{arith}
 use native.Mathlib.Decide.{ℕ-discrete}
 use lib.Dec.{T, eqb, eqb→eq}
+use lib.ListN.{getD}
 
 -- the halves of a test of two
 pub and-left : (a b : Bool) → T (a && b) → T a
@@ -16,6 +18,22 @@ and-left false b t = t
 pub and-right : (a b : Bool) → T (a && b) → T b
 and-right true b t = t
 and-right false b t = absurd t
+
+-- a chain of tests, joined from the left
+abbrev pub chain : Bool → List Bool → Bool
+chain a [] = a
+chain a (b ∷ bs) = chain (a && b) bs
+
+chain-first : (a : Bool) (bs : List Bool) → T (chain a bs) → T a
+chain-first a [] t = t
+chain-first a (b ∷ bs) t = and-left a b (chain-first (a && b) bs t)
+
+-- each test of a chain that passes has passed
+pub chain-at : (a : Bool) (bs : List Bool) → T (chain a bs) → (k : ℕ) → T (getD (a ∷ bs) k true)
+chain-at a bs t zero = chain-first a bs t
+chain-at a [] t (suc k) = tt
+chain-at true (b ∷ bs) t (suc k) = chain-at b bs t k
+chain-at false (b ∷ bs) t (suc k) = absurd (chain-first false bs t)
 
 -- a test passed is true
 pub T-true : (b : Bool) → b ≡ true → T b

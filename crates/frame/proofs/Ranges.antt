@@ -1,9 +1,10 @@
 -- The range tests, index by index.
 -- Assumes nothing.
 use mathlib.Core.Bool.{not, _&&_}
+use mathlib.Core.List.{[], _∷_}
 use Prim.Native.Nat.{_<_}
 use lib.Dec.{T, ltb, eqb, ltb→lt}
-use Rattle.bits.proofs.Every.{and-left, and-right}
+use Rattle.bits.proofs.Every.{and-left, chain-at}
 use Rattle.frame.specs.Sets.{indicesFit, voicingFits, inRange, sendable}
 use Rattle.frame.specs.declared.Indices.{Indices}
 use Rattle.frame.specs.declared.Voicing.{Voicing}
@@ -29,29 +30,25 @@ pub record VoicingRanges (v : Voicing) : Type 0 where
 -- indices that pass the test are in their ranges
 pub index-ranges : (x : Indices) → T (indicesFit x) → IndexRanges x
 index-ranges x t =
-    let t4 = and-left (ltb (x .l1) 128 && ltb (x .l2) 64 && ltb (x .l3) 64 && ltb (x .l4) 64 && ltb (x .g2) 32) (ltb (x .g1) 8) t in
-    let t3 = and-left (ltb (x .l1) 128 && ltb (x .l2) 64 && ltb (x .l3) 64 && ltb (x .l4) 64) (ltb (x .g2) 32) t4 in
-    let t2 = and-left (ltb (x .l1) 128 && ltb (x .l2) 64 && ltb (x .l3) 64) (ltb (x .l4) 64) t3 in
-    let t1 = and-left (ltb (x .l1) 128 && ltb (x .l2) 64) (ltb (x .l3) 64) t2 in
+    let at = chain-at (ltb (x .l1) 128) (ltb (x .l2) 64 ∷ ltb (x .l3) 64 ∷ ltb (x .l4) 64 ∷ ltb (x .g2) 32 ∷ ltb (x .g1) 8 ∷ []) t in
     record {
-      l1 = ltb→lt (x .l1) 128 (and-left (ltb (x .l1) 128) (ltb (x .l2) 64) t1);
-      l2 = ltb→lt (x .l2) 64 (and-right (ltb (x .l1) 128) (ltb (x .l2) 64) t1);
-      l3 = ltb→lt (x .l3) 64 (and-right (ltb (x .l1) 128 && ltb (x .l2) 64) (ltb (x .l3) 64) t2);
-      l4 = ltb→lt (x .l4) 64 (and-right (ltb (x .l1) 128 && ltb (x .l2) 64 && ltb (x .l3) 64) (ltb (x .l4) 64) t3);
-      g2 = ltb→lt (x .g2) 32 (and-right (ltb (x .l1) 128 && ltb (x .l2) 64 && ltb (x .l3) 64 && ltb (x .l4) 64) (ltb (x .g2) 32) t4);
-      g1 = ltb→lt (x .g1) 8 (and-right (ltb (x .l1) 128 && ltb (x .l2) 64 && ltb (x .l3) 64 && ltb (x .l4) 64 && ltb (x .g2) 32) (ltb (x .g1) 8) t);
+      l1 = ltb→lt (x .l1) 128 (at 0);
+      l2 = ltb→lt (x .l2) 64 (at 1);
+      l3 = ltb→lt (x .l3) 64 (at 2);
+      l4 = ltb→lt (x .l4) 64 (at 3);
+      g2 = ltb→lt (x .g2) 32 (at 4);
+      g1 = ltb→lt (x .g1) 8 (at 5);
     }
 
 -- so are those of the voicing
 pub voicing-ranges : (v : Voicing) → T (voicingFits v) → VoicingRanges v
 voicing-ranges v t =
-    let t2 = and-left (ltb (v .pitch) 99 && ltb (v .bandpass) 16 && ltb (v .fourier) 256) (ltb (v .aperiodic) 2) t in
-    let t1 = and-left (ltb (v .pitch) 99 && ltb (v .bandpass) 16) (ltb (v .fourier) 256) t2 in
+    let at = chain-at (ltb (v .pitch) 99) (ltb (v .bandpass) 16 ∷ ltb (v .fourier) 256 ∷ ltb (v .aperiodic) 2 ∷ []) t in
     record {
-      pitch = ltb→lt (v .pitch) 99 (and-left (ltb (v .pitch) 99) (ltb (v .bandpass) 16) t1);
-      bandpass = ltb→lt (v .bandpass) 16 (and-right (ltb (v .pitch) 99) (ltb (v .bandpass) 16) t1);
-      fourier = ltb→lt (v .fourier) 256 (and-right (ltb (v .pitch) 99 && ltb (v .bandpass) 16) (ltb (v .fourier) 256) t2);
-      aperiodic = ltb→lt (v .aperiodic) 2 (and-right (ltb (v .pitch) 99 && ltb (v .bandpass) 16 && ltb (v .fourier) 256) (ltb (v .aperiodic) 2) t);
+      pitch = ltb→lt (v .pitch) 99 (at 0);
+      bandpass = ltb→lt (v .bandpass) 16 (at 1);
+      fourier = ltb→lt (v .fourier) 256 (at 2);
+      aperiodic = ltb→lt (v .aperiodic) 2 (at 3);
     }
 
 -- what a sender takes is in range

@@ -78,7 +78,14 @@ module _ (x : Indices) (sync : Bool) (fl : ℕ → Bool) where
     correctable-read v =
         ap (byClass got) (class-stays (k .pitch))
         ∙ (λ i. fromWords got (word-a i) (word-b i) (word-c i) (word-d i))
-        ∙ (λ i. Accepted (Unvoiced (record { l1 = l1-back x (v .l1) i; l2 = value (cut got 35 6); l3 = value (cut got 41 6); l4 = value (cut got 47 6); g2 = g2-back x (v .g2) i; g1 = g1-back x (v .g1) i })) (flips-are i))
+        ∙ (λ i. Accepted (Unvoiced (record {
+          l1 = l1-back x (v .l1) i;
+          l2 = value (cut got 35 6);
+          l3 = value (cut got 41 6);
+          l4 = value (cut got 47 6);
+          g2 = g2-back x (v .g2) i;
+          g1 = g1-back x (v .g1) i;
+        })) (flips-are i))
 
   -- exactly two flips in word A under an unvoiced pitch code: erased
   pub double-read : ones (cut fl 0 8) ≡ 2 → ones (cut fl 28 7) ≤ 1 → read got ≡ Erased

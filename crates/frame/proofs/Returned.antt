@@ -28,7 +28,14 @@ module _ (x : Indices) (sync : Bool) (r : IndexRanges x) where
   unfolding words others unvoicedWords logical
   unvoiced-back =
       correctable-read x sync (λ j. false) clear r
-      ∙ (λ i. Accepted (Unvoiced (record { l1 = x .l1; l2 = value-bits 6 (x .l2) (r .l2) i; l3 = value-bits 6 (x .l3) (r .l3) i; l4 = value-bits 6 (x .l4) (r .l4) i; g2 = x .g2; g1 = x .g1 })) 0)
+      ∙ (λ i. Accepted (Unvoiced (record {
+        l1 = x .l1;
+        l2 = value-bits 6 (x .l2) (r .l2) i;
+        l3 = value-bits 6 (x .l3) (r .l3) i;
+        l4 = value-bits 6 (x .l4) (r .l4) i;
+        g2 = x .g2;
+        g1 = x .g1;
+      })) 0)
 
   voiced-back : (v : Voicing) → VoicingRanges v → read (logicalOf (Voiced x v) sync) ≡ Accepted (Voiced x v) 0
   unfolding words others voicedWords logical read
