@@ -3,7 +3,7 @@
 use mathlib.Core.Path.{_≡_, refl, sym, ap, ap₂, _∙_}
 use mathlib.Core.List.{List, [], _∷_, _++_}
 use Prim.Native.Nat.{ℕ, zero, suc, _+_, _≤_, _<_}
-use native.Mathlib.Nat.{not-suc-le-zero, le-of-suc-le-suc, add-zero}
+use native.Mathlib.Nat.{not-suc-le-zero, le-of-suc-le-suc, add-zero, zero-add, suc-add}
 use native.Mathlib.Omega.{arith}
 use lib.ListN.{length, getD, take, drop}
 use lib.Seq.{drop-cons}
@@ -31,6 +31,12 @@ pub cut-snoc : {A : Type 0} (g : ℕ → A) (i n : ℕ) → cut g i (suc n) ≡ 
 cut-snoc g i zero = ap (λ (k : ℕ). g k ∷ []) (sym (add-zero i))
 cut-snoc g i (suc n) = ap (λ (xs : List _). g i ∷ xs) (cut-snoc g (suc i) n ∙ ap (λ (k : ℕ). cut g (suc i) n ++ (g k ∷ [])) (omega arith))
 
+-- two cuts that meet are one
+pub cut-append : {A : Type 0} (g : ℕ → A) (i m n : ℕ) → cut g i (m + n) ≡ cut g i m ++ cut g (i + m) n
+cut-append g i zero n = ap₂ (cut g) (sym (add-zero i)) (zero-add n)
+cut-append g i (suc m) n =
+    ap (cut g i) (suc-add m n) ∙ ap (λ (xs : List _). g i ∷ xs) (cut-append g (suc i) m n ∙ ap (λ (k : ℕ). cut g (suc i) m ++ cut g k n) (omega arith))
+
 -- a list is the cut of its entries
 pub cut-getD : {A : Type 0} (d : A) (l : List A) → cut (λ j. getD l j d) 0 (length l) ≡ l
 cut-getD d [] = refl
@@ -44,6 +50,11 @@ cut-getD d (x ∷ l) = ap (λ (xs : List _). x ∷ xs) (shift (length l) 0 ∙ c
 pub cut-shift : {A : Type 0} (g : ℕ → A) (a i n : ℕ) → cut g (a + i) n ≡ cut (λ j. g (a + j)) i n
 cut-shift g a i zero = refl
 cut-shift g a i (suc n) = ap (λ (xs : List _). g (a + i) ∷ xs) (ap (λ (k : ℕ). cut g k n) (omega arith) ∙ cut-shift g a (suc i) n)
+
+-- a part from one place later is a part of what comes one place later
+pub cut-suc : {A : Type 0} (g : ℕ → A) (i n : ℕ) → cut g (suc i) n ≡ cut (λ j. g (suc j)) i n
+cut-suc g i zero = refl
+cut-suc g i (suc n) = ap (λ (xs : List _). g (suc i) ∷ xs) (cut-suc g (suc i) n)
 
 -- a part of a list, entry by entry
 pub cut-part : {A : Type 0} (d : A) (l : List A) (a n : ℕ) → a + n ≤ length l → cut (λ j. getD l j d) a n ≡ take n (drop a l)

@@ -1,6 +1,6 @@
 -- A test that antt computes at every number below n, and the laws that hand it over at one of them.
 -- Assumes nothing.
-use mathlib.Core.Path.{_≡_, sym, subst}
+use mathlib.Core.Path.{_≡_, refl, sym, subst}
 use mathlib.Core.Bool.{Bool, true, false, _&&_, false≢true}
 use mathlib.Core.List.{List, [], _∷_}
 use Prim.Native.Nat.{ℕ, zero, suc, _<_}
@@ -18,6 +18,11 @@ and-left false b t = t
 pub and-right : (a b : Bool) → T (a && b) → T b
 and-right true b t = t
 and-right false b t = absurd t
+
+-- a test of two passes where both do
+pub and-both : (a b : Bool) → T a → T b → T (a && b)
+and-both true b t u = u
+and-both false b t u = t
 
 -- a chain of tests, joined from the left
 abbrev pub chain : Bool → List Bool → Bool
@@ -38,6 +43,11 @@ chain-at false (b ∷ bs) t (suc k) = absurd (chain-first false bs t)
 -- a test passed is true
 pub T-true : (b : Bool) → b ≡ true → T b
 T-true b e = subst T (sym e) tt
+
+-- and the other way round
+pub true-T : (b : Bool) → T b → b ≡ true
+true-T true t = refl
+true-T false t = absurd t
 
 -- the second test is asked only where the first passes
 abbrev pub implies : Bool → Bool → Bool

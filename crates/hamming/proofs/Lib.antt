@@ -7,3 +7,4 @@ pub mod Words
 pub mod Entries
 pub mod Parities
 pub mod Outcomes
+pub mod Bounds
