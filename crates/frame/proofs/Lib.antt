@@ -9,3 +9,6 @@ pub mod Neighbours
 pub mod Numbers
 pub mod Front
 pub mod Packed
+pub mod Cuts
+pub mod Joined
+pub mod Fits

@@ -10,7 +10,7 @@ use borrow.Author.Tests.{leb-true}
 use Rattle.bits.specs.Bits.{addOne, ones, cut}
 use Rattle.bits.proofs.Every.{and-left, and-right}
 use Rattle.order.specs.Order.{placeOf, orderBy, defaultOrder}
-use Rattle.frame.specs.Damage.{Correctable, Within}
+use Rattle.frame.specs.Damage.{logicalFlips, Correctable, Within}
 
 -- p and q are places at least n apart
 abbrev apart : ℕ → ℕ → ℕ → Bool
@@ -59,7 +59,7 @@ module _ (n : ℕ) (fl : ℕ → Bool) (w : Within n fl) where
       go false f k ih = ih
 
 -- flips within seven neighbouring places are correctable in the default order
-pub seven-neighbours : (fl : ℕ → Bool) → Within 7 fl → Correctable (λ j. fl (placeOf defaultOrder j))
+pub seven-neighbours : (fl : ℕ → Bool) → Within 7 fl → Correctable (logicalFlips defaultOrder fl)
 unfolding placeOf orderBy defaultOrder
 seven-neighbours fl w = record {
   a = spread-one 7 fl w (cut (placeOf defaultOrder) 0 8) tt;

@@ -7,12 +7,12 @@ use Prim.Native.Nat.{ℕ, _≤_, _<_}
 use native.Mathlib.Omega.{arith}
 use lib.Dec.{T}
 use Rattle.bits.specs.Bits.{ones, cut}
-use Rattle.order.specs.Order.{Order, placeOf, logicalBit, through}
+use Rattle.order.specs.Order.{Order, logicalBit, through}
 use Rattle.order.proofs.Frames.{sent-bit, received-bit}
 use Rattle.frame.specs.Sets.{sendable}
 use Rattle.frame.specs.Layout.{logicalOf, frame}
 use Rattle.frame.specs.Reads.{read}
-use Rattle.frame.specs.Damage.{damaged, Correctable, protectedFlips}
+use Rattle.frame.specs.Damage.{damaged, logicalFlips, Correctable, protectedFlips}
 use Rattle.frame.specs.declared.Indices.{Indices}
 use Rattle.frame.specs.declared.Voicing.{Voicing}
 use Rattle.frame.specs.declared.ParameterSet.{ParameterSet}
@@ -32,30 +32,26 @@ module _ (ord : List ℕ) (o : Order ord) where
       read-ext (logicalBit ord (frame ord set sync)) (logicalOf set sync) (λ j h. sent-bit ord o (logicalOf set sync) j (omega arith))
       ∙ read-back set sync (sendable-fits set t)
 
-  -- the flips of logical bits that a channel's flips of places are
-  abbrev pub logicalFlips : (ℕ → Bool) → ℕ → Bool
-  logicalFlips fl j = fl (placeOf ord j)
-
   -- a received frame is read as the damaged bits
   pub received-read : (set : ParameterSet) (sync : Bool) (fl : ℕ → Bool)
-      → read (logicalBit ord (through fl (frame ord set sync))) ≡ read (damaged (logicalOf set sync) (logicalFlips fl))
+      → read (logicalBit ord (through fl (frame ord set sync))) ≡ read (damaged (logicalOf set sync) (logicalFlips ord fl))
   received-read set sync fl =
-      read-ext (logicalBit ord (through fl (frame ord set sync))) (damaged (logicalOf set sync) (logicalFlips fl))
+      read-ext (logicalBit ord (through fl (frame ord set sync))) (damaged (logicalOf set sync) (logicalFlips ord fl))
       (λ j h. received-bit ord o (logicalOf set sync) fl j (omega arith))
 
   module _ (x : Indices) (sync : Bool) (fl : ℕ → Bool) where
     -- the light-frame law: at most one flip in the pitch code and in each word leaves L1, G2 and G1 as sent, and every flip counted
-    pub correctable-returns : T (sendable (Unvoiced x)) → Correctable (logicalFlips fl)
-        → read (logicalBit ord (through fl (frame ord (Unvoiced x) sync))) ≡ Accepted (Unvoiced (seen x sync (logicalFlips fl))) (protectedFlips (logicalFlips fl))
-    correctable-returns t k = received-read (Unvoiced x) sync fl ∙ correctable-read x sync (logicalFlips fl) k (index-ranges x t)
+    pub correctable-returns : T (sendable (Unvoiced x)) → Correctable (logicalFlips ord fl)
+        → read (logicalBit ord (through fl (frame ord (Unvoiced x) sync))) ≡ Accepted (Unvoiced (seen x sync (logicalFlips ord fl))) (protectedFlips (logicalFlips ord fl))
+    correctable-returns t k = received-read (Unvoiced x) sync fl ∙ correctable-read x sync (logicalFlips ord fl) k (index-ranges x t)
 
     -- exactly two flips in word A, and at most one in the pitch code, erase a frame sent unvoiced
-    pub double-erased : ones (cut (logicalFlips fl) 0 8) ≡ 2 → ones (cut (logicalFlips fl) 28 7) ≤ 1
+    pub double-erased : ones (cut (logicalFlips ord fl) 0 8) ≡ 2 → ones (cut (logicalFlips ord fl) 28 7) ≤ 1
         → read (logicalBit ord (through fl (frame ord (Unvoiced x) sync))) ≡ Erased
-    double-erased a p = received-read (Unvoiced x) sync fl ∙ double-read x sync (logicalFlips fl) a p
+    double-erased a p = received-read (Unvoiced x) sync fl ∙ double-read x sync (logicalFlips ord fl) a p
 
   -- at most one flip in its pitch code leaves a frame sent voiced voiced, or erases it
-  pub voiced-returns : (x : Indices) (v : Voicing) (sync : Bool) (fl : ℕ → Bool) → v .pitch < 99 → ones (cut (logicalFlips fl) 28 7) ≤ 1
+  pub voiced-returns : (x : Indices) (v : Voicing) (sync : Bool) (fl : ℕ → Bool) → v .pitch < 99 → ones (cut (logicalFlips ord fl) 28 7) ≤ 1
       → T (voicedOrErased (read (logicalBit ord (through fl (frame ord (Voiced x v) sync)))))
   voiced-returns x v sync fl h p =
-      subst⁻¹ (λ (r : Reading). T (voicedOrErased r)) (received-read (Voiced x v) sync fl) (voiced-read x v sync (logicalFlips fl) h p)
+      subst⁻¹ (λ (r : Reading). T (voicedOrErased r)) (received-read (Voiced x v) sync fl) (voiced-read x v sync (logicalFlips ord fl) h p)

@@ -4,6 +4,7 @@ use mathlib.Core.Bool.{not, _&&_}
 use mathlib.Core.List.{[], _∷_}
 use Prim.Native.Nat.{_<_}
 use lib.Dec.{T, ltb, eqb, ltb→lt}
+use borrow.Author.Tests.{lt-ltb}
 use Rattle.bits.proofs.Every.{and-left, chain-at}
 use Rattle.frame.specs.Sets.{indicesFit, voicingFits, inRange, sendable}
 use Rattle.frame.specs.declared.Indices.{Indices}
@@ -50,6 +51,28 @@ voicing-ranges v t =
       fourier = ltb→lt (v .fourier) 256 (at 2);
       aperiodic = ltb→lt (v .aperiodic) 2 (at 3);
     }
+
+-- indices in their ranges pass the test
+pub index-fits : (x : Indices) → IndexRanges x → T (indicesFit x)
+index-fits x r =
+    rw (
+      lt-ltb (x .l1) 128 (r .l1),
+      lt-ltb (x .l2) 64 (r .l2),
+      lt-ltb (x .l3) 64 (r .l3),
+      lt-ltb (x .l4) 64 (r .l4),
+      lt-ltb (x .g2) 32 (r .g2),
+      lt-ltb (x .g1) 8 (r .g1),
+    ) tt
+
+-- so does the voicing
+pub voicing-fits : (v : Voicing) → VoicingRanges v → T (voicingFits v)
+voicing-fits v r =
+    rw (
+      lt-ltb (v .pitch) 99 (r .pitch),
+      lt-ltb (v .bandpass) 16 (r .bandpass),
+      lt-ltb (v .fourier) 256 (r .fourier),
+      lt-ltb (v .aperiodic) 2 (r .aperiodic),
+    ) tt
 
 -- what a sender takes is in range
 pub sendable-fits : (set : ParameterSet) → T (sendable set) → T (inRange set)

@@ -2,11 +2,17 @@
 use Prim.Native.Nat.{ℕ, _+_, _≤_, _<_}
 use mathlib.Core.Path.{_≡_}
 use mathlib.Core.Bool.{Bool, true}
+use mathlib.Core.List.{List}
 use Rattle.bits.specs.Bits.{_⊻_, ones, cut}
+use Rattle.order.specs.Order.{placeOf}
 
 -- logical bits after flips
 abbrev pub damaged : (ℕ → Bool) → (ℕ → Bool) → ℕ → Bool
 damaged g fl j = g j ⊻ fl j
+
+-- the flips of logical bits that a channel's flips of places are, in an order
+abbrev pub logicalFlips : List ℕ → (ℕ → Bool) → ℕ → Bool
+logicalFlips ord fl j = fl (placeOf ord j)
 
 -- flips that repair undoes, document 01's "light": at most one in the pitch code and in each word
 pub record Correctable (fl : ℕ → Bool) : Type 0 where

@@ -6,11 +6,16 @@ use Rattle.frame.specs.declared.Voicing.{Voicing}
 use Rattle.frame.specs.declared.ParameterSet.{ParameterSet}
 use Rattle.frame.specs.declared.ParameterSet.the-variants.{Unvoiced, Voiced}
 
--- the six indices of every set
+-- the six indices of a set
+abbrev pub indicesIn : ParameterSet → Indices
+indicesIn (Unvoiced x) = x
+indicesIn (Voiced x v) = x
+
+-- the ranges of the six
 abbrev pub indicesFit : Indices → Bool
 indicesFit x = ltb (x .l1) 128 && ltb (x .l2) 64 && ltb (x .l3) 64 && ltb (x .l4) 64 && ltb (x .g2) 32 && ltb (x .g1) 8
 
--- the four of a voiced set
+-- and of the four of a voiced set
 abbrev pub voicingFits : Voicing → Bool
 voicingFits v = ltb (v .pitch) 99 && ltb (v .bandpass) 16 && ltb (v .fourier) 256 && ltb (v .aperiodic) 2
 

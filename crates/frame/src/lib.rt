@@ -1,10 +1,15 @@
 // The coded frame: parameter sets, their 54 logical bits, what bits are read as, and packing.
 mod packing;
+mod parts;
 mod range;
+mod unpacking;
 mod word;
 
 pub use packing::pack;
+pub use range::indices_of;
+pub use range::is_in_range;
 pub use range::is_sendable;
+pub use unpacking::read;
 
 // The indices that every set has: four LSF stages, the second gain index and the first gain code.
 pub struct Indices {

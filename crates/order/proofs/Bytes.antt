@@ -26,7 +26,7 @@ pub bytes-ext : (g h : ℕ → Bool) → ((t : ℕ) → t < 56 → g t ≡ h t) 
 bytes-ext g h e = cut-ext (byteOf g) (byteOf h) 0 7 (λ i a b. ap value (cut-ext g h (8 * i) 8 (λ t c d. e t (omega arith))))
 
 -- the eight places of a byte stand for it
-byte-back : (bytes : List ℕ) (i : ℕ) → getD bytes i 0 < 256 → byteOf (bitAt bytes) i ≡ getD bytes i 0
+pub byte-back : (bytes : List ℕ) (i : ℕ) → getD bytes i 0 < 256 → byteOf (bitAt bytes) i ≡ getD bytes i 0
 unfolding bitAt
 byte-back bytes i h =
     ap value (cut-ext (bitAt bytes) (λ t. getD (bits 8 (getD bytes i 0)) (t % 8) false) (8 * i) 8

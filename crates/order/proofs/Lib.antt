@@ -5,3 +5,4 @@ pub mod Frames
 pub mod Default
 pub mod Words
 pub mod Refusals
+pub mod Answers

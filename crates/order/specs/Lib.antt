@@ -1,2 +1,3 @@
 pub mod Order
 pub mod Word
+pub mod Taking

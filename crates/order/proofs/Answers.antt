@@ -1,0 +1,86 @@
+-- What a call that takes a frame's logical bits owes in each of its three cases, and that places read from one number are those of the bytes.
+-- Assumes nothing.
+use mathlib.Core.Path.{_≡_, refl, sym, ap, _∙_, subst}
+use mathlib.Core.Bool.{Bool, true, false, cond}
+use mathlib.Core.List.{List, [], _∷_}
+use Prim.Native.Nat.{ℕ, _+_, _*_, _%_, _^_, _≤_, _<_}
+use native.Mathlib.Nat.{zero-add, lt-of-lt-of-le}
+use native.Mathlib.Omega.{arith}
+use lib.Dec.{eqb}
+use lib.ListN.{length, getD}
+use lib.Pow.{pow-mono}
+use borrow.Author.Tests.{eq-eqb, ne-eqb}
+use Rattle.bits.specs.Bits.{ones, value, bits, cut}
+use Rattle.bits.proofs.Cut.{length-cut, cut-at, cut-ext, cut-append}
+use Rattle.bits.proofs.Value.{value-lt-at, value-join}
+use Rattle.bits.proofs.Digits.{bits-value}
+use Rattle.order.specs.Order.{defaultOrder, placeOf, bitAt, logicalBit, padding, frameRefusal}
+use Rattle.order.specs.Word.{wordBit}
+use Rattle.order.specs.Taking.{bitsUnless, bitsAnswer}
+use Rattle.order.specs.declared.BitsAnswer.the-variants.{Bits, Refused}
+use Rattle.order.proofs.Bytes.{byte-back, padding-is}
+use Rattle.order.proofs.Places.{place-lt}
+use Rattle.order.proofs.Default.{default-order}
+
+-- two bits have no ones where they stand for 0
+clear-is : (x y : Bool) → eqb (ones (x ∷ y ∷ [])) 0 ≡ eqb (value (x ∷ y ∷ [])) 0
+clear-is true true = refl
+clear-is true false = refl
+clear-is false true = refl
+clear-is false false = refl
+
+module _ (bytes : List ℕ) where
+  -- one byte more
+  pub byte-more : (i x : ℕ) → getD bytes i 0 < 256 → x ≡ value (cut (bitAt bytes) 0 (8 * i))
+      → x * 256 + getD bytes i 0 ≡ value (cut (bitAt bytes) 0 (8 * (i + 1)))
+  byte-more i x h e =
+      let g : ℕ → Bool = bitAt bytes in
+      let q : 0 + 8 * i ≡ 8 * i = omega arith in
+      let n : 8 * (i + 1) ≡ 8 * i + 8 = omega arith in
+      sym (ap (λ (k : ℕ). value (cut g 0 k)) n ∙ ap value (cut-append g 0 (8 * i) 8)
+      ∙ value-join (cut g 0 (8 * i)) (cut g (0 + 8 * i) 8) 8 x (getD bytes i 0) (length-cut g (0 + 8 * i) 8) (sym e)
+      (ap (λ (k : ℕ). value (cut g k 8)) q ∙ byte-back bytes i h))
+
+  -- what is joined of at most six bytes stays below 2 ^ 48
+  pub bytes-lt : (i x : ℕ) → i ≤ 6 → x ≡ value (cut (bitAt bytes) 0 (8 * i)) → x < 2 ^ 48
+  bytes-lt i x l e =
+      let m : 8 * i ≤ 48 = omega arith in
+      subst (λ (y : ℕ). y < 2 ^ 48) (sym e)
+      (lt-of-lt-of-le (value-lt-at (8 * i) (cut (bitAt bytes) 0 (8 * i)) (length-cut (bitAt bytes) 0 (8 * i))) (pow-mono m))
+
+  -- a place of the number is that place of the bytes
+  place-is : (w t : ℕ) → w ≡ value (cut (bitAt bytes) 0 56) → t < 56 → wordBit 56 w t ≡ bitAt bytes t
+  place-is w t e h =
+      ap (λ (y : ℕ). getD (bits 56 y) t false) e
+      ∙ ap (λ (l : List Bool). getD l t false) (bits-value 56 (cut (bitAt bytes) 0 56) (length-cut (bitAt bytes) 0 56))
+      ∙ cut-at false (bitAt bytes) 0 56 t h
+      ∙ ap (bitAt bytes) (zero-add t)
+
+  -- so the logical bits of the number are those of the bytes
+  pub logical-is : (w : ℕ) → w ≡ value (cut (bitAt bytes) 0 56)
+      → cut (λ j. wordBit 56 w (placeOf defaultOrder j)) 0 54 ≡ cut (logicalBit defaultOrder bytes) 0 54
+  logical-is w e =
+      cut-ext (λ j. wordBit 56 w (placeOf defaultOrder j)) (logicalBit defaultOrder bytes) 0 54
+      (λ j a b. place-is w (placeOf defaultOrder j) e (omega (arith, place-lt defaultOrder default-order j (omega arith))))
+
+  -- the padding is clear where the last byte is a multiple of 4
+  padding-test : eqb (ones (padding bytes)) 0 ≡ eqb (getD bytes 6 0 % 4) 0
+  padding-test = clear-is (bitAt bytes 54) (bitAt bytes 55) ∙ ap (λ (x : ℕ). eqb x 0) (padding-is bytes)
+
+  -- the answer is the one of the refusal number
+  owes : (n : ℕ) → frameRefusal bytes ≡ n → bitsUnless n bytes ≡ bitsAnswer bytes
+  unfolding bitsAnswer
+  owes n e = ap (λ (m : ℕ). bitsUnless m bytes) (sym e)
+
+  -- a frame of another length
+  pub length-owes : (length bytes ≡ 7 → ⊥) → Refused 2 ≡ bitsAnswer bytes
+  length-owes h = owes 2 (rw (ne-eqb (length bytes) 7 h) refl)
+
+  -- a set bit in the padding
+  pub padding-owes : length bytes ≡ 7 → (getD bytes 6 0 % 4 ≡ 0 → ⊥) → Refused 3 ≡ bitsAnswer bytes
+  padding-owes h p = owes 3 (rw (eq-eqb (length bytes) 7 h) (ap (λ (b : Bool). cond b 0 3) (padding-test ∙ ne-eqb (getD bytes 6 0 % 4) 0 p)))
+
+  -- the 54 bits
+  pub bits-owes : length bytes ≡ 7 → getD bytes 6 0 % 4 ≡ 0 → (w : ℕ) → w ≡ value (cut (logicalBit defaultOrder bytes) 0 54)
+      → Bits w ≡ bitsAnswer bytes
+  bits-owes h p w e = ap Bits e ∙ owes 0 (rw (eq-eqb (length bytes) 7 h) (ap (λ (b : Bool). cond b 0 3) (padding-test ∙ eq-eqb (getD bytes 6 0 % 4) 0 p)))
