@@ -1,0 +1,65 @@
+-- `receiver::history::push` meets its contract: after i turns the first i kinds are those of the list without its oldest, and
+-- the others are the new one. Assumes nothing.
+use mathlib.Core.Path.{_≡_, ap, _∙_}
+use mathlib.Core.List.{List, _++_}
+use Prim.Native.Nat.{ℕ, _+_, _-_, _≤_, _<_}
+use native.Mathlib.Omega.{arith}
+use lib.ListN.{length, take, drop, replicate, length-drop}
+use lib.Seq.{take-all, getD-drop}
+use borrow.Author.Needs.{needs}
+use Rattle.frame.proofs.Front.{front-more}
+use Rattle.receiver.specs.declared.FrameKind.the-variants.{Accepted}
+use Rattle.receiver.specs.declared.Past.{Past}
+use Rattle.receiver.proofs.history.push.Statement.{statement}
+use Rattle.receiver.proofs.history.push.Tie as tie
+
+-- what an array is read as past its end
+abbrev z : Past
+z = record { kind = Accepted }
+
+abbrev Inv-loop : tie.InvT-loop
+Inv-loop kinds next₀ i₀ next i = (i ≤ 15) × (length kinds ≡ 16) × (next ≡ take i (drop 1 kinds) ++ drop i next₀)
+
+abbrev μ-loop : tie.MeasureT-loop
+μ-loop kinds next₀ i₀ next i = 15 - i
+
+loop-holds : tie.Need-loop-holds Inv-loop μ-loop
+loop-holds c = search needs
+
+add-next : tie.Need-add-next Inv-loop μ-loop
+add-next c = search needs
+
+array-copy-out-next : tie.Need-array-copy-out-next Inv-loop μ-loop
+array-copy-out-next c = search needs
+
+array-set-from-next : tie.Need-array-set-from-next Inv-loop μ-loop
+array-set-from-next c = search needs
+
+add-i : tie.Need-add-i Inv-loop μ-loop
+add-i c = search needs
+
+loop-less : tie.Need-loop-less Inv-loop μ-loop
+loop-less c = search needs
+
+loop-again : tie.Need-loop-again Inv-loop μ-loop
+loop-again c =
+    let L = c .before .before .loop in
+    let k = c .before .before .before .args .t1 in
+    let new : List Past = replicate 16 (record { kind = c .before .before .before .args .kind }) in
+    let h : L .i < length new = omega arith in
+    let m : L .i < length (drop 1 k) = simp length-drop (omega arith) in
+    let e : 1 + L .i ≡ L .i + 1 = omega arith in
+    (search needs, search needs, cc (front-more (drop 1 k) new (L .i) z h m, getD-drop 1 k (L .i) z))
+
+returns : tie.Need-returns Inv-loop μ-loop
+returns c =
+    let k = c .before .before .args .t1 in
+    let new : List Past = replicate 16 (record { kind = c .before .before .args .kind }) in
+    let e : c .before .loop .i ≡ 15 = omega arith in
+    let m : length (drop 1 k) ≤ 15 = simp length-drop (omega arith) in
+    c .before .loop .inv .2
+    ∙ ap (λ (i : ℕ). take i (drop 1 k) ++ drop i new) e
+    ∙ ap (λ (l : List Past). l ++ drop 15 new) (take-all 15 (drop 1 k) m)
+
+pub push-spec : {M : Type 1} → statement M
+push-spec = tie.close (tie.spec Inv-loop μ-loop loop-holds add-next array-copy-out-next array-set-from-next add-i loop-less loop-again returns)

@@ -1,0 +1,78 @@
+-- `receiver::receiving::receive` meets its contract: each case owes what the law of that case says. Assumes nothing.
+use mathlib.Core.Path.{sym, ap, _∙_}
+use lib.Dec.{eqb}
+use Prim.Native.Nat.{_%_}
+use borrow.Author.Needs.{needs}
+use Rattle.receiver.specs.Steps.{step}
+use Rattle.receiver.proofs.Cases.{frame-owes, record-owes, step-owes}
+use Rattle.receiver.proofs.receiving.receive.Statement.{statement}
+use Rattle.receiver.proofs.receiving.receive.Tie as tie
+
+logical-bits-requires : tie.Need-logical-bits-requires
+logical-bits-requires c κs = search needs
+
+enum-known-n : tie.Need-enum-known-n
+enum-known-n c = search needs
+
+refuse-requires : tie.Need-refuse-requires
+refuse-requires c κs = search needs
+
+enum-known-word : tie.Need-enum-known-word
+enum-known-word c = search needs
+
+is-valid-requires : tie.Need-is-valid-requires
+is-valid-requires c κs = search needs
+
+read-requires : tie.Need-read-requires
+read-requires c κs = search needs
+
+step-requires : tie.Need-step-requires
+step-requires c κs = search needs
+
+refuse-requires-2 : tie.Need-refuse-requires-2
+refuse-requires-2 c κs = search needs
+
+returns : tie.Need-returns
+returns c =
+    let known = c .before .before in
+    let bits = known .before .before in
+    let a = bits .before .before .args in
+    c .refuse .ensures ∙ frame-owes (a .rec) (a .frame .now) _ (sym (bits .logical-bits .ensures) ∙ known .n .given .1)
+
+returns-2 : tie.Need-returns-2
+returns-2 c =
+    let fits = c .before .before .before in
+    let known = fits .before .before in
+    let bits = known .before .before in
+    let a = bits .before .before .args in
+    let word = known .word .given .0 .0 in
+    c .step .ensures
+    ∙ ap (step (a .rec) (eqb (word % 2) 1)) (c .before .read .ensures)
+    ∙ step-owes (a .rec) (a .frame .now) word (sym (bits .logical-bits .ensures) ∙ known .word .given .1)
+    (sym (fits .is-valid .ensures) ∙ c .before .before .if1 .taken)
+
+returns-3 : tie.Need-returns-3
+returns-3 c =
+    let fits = c .before .before in
+    let known = fits .before .before in
+    let bits = known .before .before in
+    let a = bits .before .before .args in
+    c .refuse2 .ensures
+    ∙ record-owes (a .rec) (a .frame .now) _ (sym (bits .logical-bits .ensures) ∙ known .word .given .1)
+    (sym (fits .is-valid .ensures) ∙ c .before .if1 .left)
+
+pub receive-spec : {M : Type 1} → statement M
+receive-spec =
+    tie.close
+    (tie.spec
+    logical-bits-requires
+    enum-known-n
+    refuse-requires
+    enum-known-word
+    is-valid-requires
+    read-requires
+    step-requires
+    refuse-requires-2
+    returns
+    returns-2
+    returns-3)

@@ -1,0 +1,21 @@
+-- `receiver::steps::repeat` meets its contract: each part of the result is what its call ensures. Assumes nothing.
+use borrow.Author.Needs.{needs}
+use Rattle.receiver.specs.Steps.{repeated}
+use Rattle.receiver.proofs.steps.repeat.Statement.{statement}
+use Rattle.receiver.proofs.steps.repeat.Tie as tie
+
+push-requires : tie.Need-push-requires
+push-requires c κs = search needs
+
+gain-level-requires : tie.Need-gain-level-requires
+gain-level-requires c κs = search needs
+
+is-muted-requires : tie.Need-is-muted-requires
+is-muted-requires c κs = search needs
+
+returns : tie.Need-returns
+unfolding repeated
+returns c = simp (c .is-muted .ensures, c .before .gain-level .ensures, c .before .before .push .ensures)
+
+pub repeat-spec : {M : Type 1} → statement M
+repeat-spec = tie.close (tie.spec push-requires gain-level-requires is-muted-requires returns)

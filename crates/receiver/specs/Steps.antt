@@ -1,0 +1,56 @@
+-- Document 01, "Receiver": what a frame yields and leaves, by what its bits are read as.
+use Prim.Native.Nat.{ℕ}
+use mathlib.Core.Bool.{Bool}
+use Rattle.gain.specs.Levels.{level, firstLevel}
+use Rattle.frame.specs.Sets.{indicesIn}
+use Rattle.frame.specs.declared.ParameterSet.{ParameterSet}
+use Rattle.frame.specs.declared.ParameterSet.the-variants.{Unvoiced, Voiced}
+use Rattle.frame.specs.declared.Reading.{Reading}
+use Rattle.frame.specs.declared.Reading.the-variants as reading
+use Rattle.receiver.specs.declared.FrameKind.the-variants.{Accepted, Repeat}
+use Rattle.receiver.specs.declared.Kind.{Kind}
+use Rattle.receiver.specs.declared.Kind.the-variants as kind
+use Rattle.receiver.specs.declared.Record.{Record}
+use Rattle.receiver.specs.declared.ReceiveAnswer.the-variants.{Result}
+use Rattle.receiver.specs.declared.Received.{Received}
+use Rattle.receiver.specs.Records.{pushed, muted}
+
+-- the kind of an accepted frame
+abbrev pub kindOf : ParameterSet → Kind
+kindOf (Unvoiced x) = kind.Unvoiced
+kindOf (Voiced x v) = kind.Voiced
+
+-- accepted: the set is the result and the last set, its G2 the last G2; the first level goes by q, the G2 accepted before
+unfoldable pub accepted : Record → Bool → ParameterSet → ℕ → Received
+accepted r sync set repaired = record {
+  answer = Result (record {
+    kind = kindOf set;
+    set = set;
+    first = firstLevel (indicesIn set .g2) (indicesIn set .g1) (r .g2);
+    second = level (indicesIn set .g2);
+    mute = muted (pushed (r .kinds) Accepted);
+    sync = sync;
+    repaired = repaired;
+  });
+  next = record { last = set; g2 = indicesIn set .g2; kinds = pushed (r .kinds) Accepted };
+}
+
+-- a repeat: the last set is the result, both levels are that of the last G2, and last set and G2 stay
+unfoldable pub repeated : Record → Bool → Received
+repeated r sync = record {
+  answer = Result (record {
+    kind = kind.Repeat;
+    set = r .last;
+    first = level (r .g2);
+    second = level (r .g2);
+    mute = muted (pushed (r .kinds) Repeat);
+    sync = sync;
+    repaired = 0;
+  });
+  next = record { last = r .last; g2 = r .g2; kinds = pushed (r .kinds) Repeat };
+}
+
+-- a frame that is not erased is accepted, an erased one is a repeat
+abbrev pub step : Record → Bool → Reading → Received
+step r sync (reading.Accepted set repaired) = accepted r sync set repaired
+step r sync reading.Erased = repeated r sync

@@ -1,0 +1,50 @@
+// The calls that take a frame.
+use crate::ReceiveAnswer;
+use crate::Received;
+use crate::Record;
+use crate::state::is_valid;
+use crate::steps::step;
+use frame::read;
+use order::BitsAnswer;
+use order::logical_bits;
+ghost use mathlib.Core.Path.{_≡_};
+ghost use Rattle.order.specs.Order.{defaultOrder};
+ghost use Rattle.receiver.specs.Receiving.{receive};
+ghost use Rattle.receiver.specs.declared.ReceiveAnswer.the-variants.{Refused};
+
+// A refusal: its number, and the record as it is.
+fn refuse(rec: Record, n: u8) -> Received
+    ensures { λ r. ⌜ r ≡ record { answer = Refused n; next = rec } ⌝ }
+{
+    Received {
+        answer: ReceiveAnswer::Refused(n),
+        next: rec,
+    }
+}
+
+// A frame in the default order: the answer, and the record after it. Refused: 2, not seven bytes; 3, one of the
+// last two bits set; 4, a record with a field out of its range.
+pub fn receive(rec: Record, frame: &[u8]) -> Received
+    ensures { λ r. ⌜ r ≡ receive defaultOrder rec (now (frame .entry)) ⌝ }
+{
+    match logical_bits(frame) {
+        BitsAnswer::Refused(n) => refuse(rec, n),
+        BitsAnswer::Bits(word) => {
+            if is_valid(rec) {
+                step(rec, word % 2 == 1, read(word))
+            } else {
+                refuse(rec, 4)
+            }
+        }
+    }
+}
+
+// The same, with the record changed in the caller's memory.
+pub fn receive_in_place(rec: &mut Record, frame: &[u8]) -> ReceiveAnswer
+    ensures { λ r. ⌜ (r ≡ receive defaultOrder (now (rec .entry)) (now (frame .entry)) .answer)
+        × (now (rec .exit) ≡ receive defaultOrder (now (rec .entry)) (now (frame .entry)) .next) ⌝ }
+{
+    let received = receive(*rec, frame);
+    *rec = received.next;
+    received.answer
+}

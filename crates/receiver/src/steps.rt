@@ -1,0 +1,88 @@
+// What an accepted frame and a repeat yield, and the record they leave.
+use crate::FrameKind;
+use crate::FrameResult;
+use crate::Kind;
+use crate::ReceiveAnswer;
+use crate::Received;
+use crate::Record;
+use crate::history::is_muted;
+use crate::history::push;
+use frame::ParameterSet;
+use frame::Reading;
+use frame::indices_of;
+use gain::first_gain_level;
+use gain::gain_level;
+ghost use mathlib.Core.Path.{_≡_};
+ghost use Rattle.receiver.specs.Steps.{kindOf, accepted, repeated, step};
+
+// The kind of an accepted frame.
+fn kind_of(set: ParameterSet) -> Kind
+    ensures { λ r. ⌜ r ≡ kindOf set ⌝ }
+{
+    match set {
+        ParameterSet::Unvoiced(_) => Kind::Unvoiced,
+        ParameterSet::Voiced(_, _) => Kind::Voiced,
+    }
+}
+
+// An accepted frame: its set is the result, and becomes the last one. The first level goes by the G2 accepted
+// before, which the record holds.
+fn accept(rec: Record, sync: bool, set: ParameterSet, repaired: u8) -> Received
+    ensures { λ r. ⌜ r ≡ accepted rec sync set repaired ⌝ }
+{
+    let old = rec.kinds;
+    let kinds = push(old, FrameKind::Accepted);
+    let x = indices_of(set);
+    Received {
+        answer: ReceiveAnswer::Result(FrameResult {
+            kind: kind_of(set),
+            set,
+            first: first_gain_level(x.g2, x.g1, rec.g2),
+            second: gain_level(x.g2),
+            mute: is_muted(kinds),
+            sync,
+            repaired,
+        }),
+        next: Record {
+            last: set,
+            g2: x.g2,
+            kinds,
+        },
+    }
+}
+
+// A repeat: the last set is the result, at the level of the last G2, and both stay.
+fn repeat(rec: Record, sync: bool) -> Received
+    ensures { λ r. ⌜ r ≡ repeated rec sync ⌝ }
+{
+    let last = rec.last;
+    let old = rec.kinds;
+    let kinds = push(old, FrameKind::Repeat);
+    let level = gain_level(rec.g2);
+    Received {
+        answer: ReceiveAnswer::Result(FrameResult {
+            kind: Kind::Repeat,
+            set: last,
+            first: level,
+            second: level,
+            mute: is_muted(kinds),
+            sync,
+            repaired: 0,
+        }),
+        next: Record {
+            last,
+            g2: rec.g2,
+            kinds,
+        },
+    }
+}
+
+// A frame by what its bits are read as: an erased one is a repeat.
+pub(crate) fn step(rec: Record, sync: bool, reading: Reading) -> Received
+    ensures { λ r. ⌜ r ≡ step rec sync reading ⌝ }
+{
+    match reading {
+        Reading::Accepted(set, repaired) => accept(rec, sync, set, repaired),
+        Reading::Erased => repeat(rec, sync),
+    }
+}
