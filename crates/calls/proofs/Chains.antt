@@ -1,0 +1,74 @@
+-- Rows that follow one another: what they say of the channel, of the answers and of the clean receiver.
+-- Assumes nothing.
+use mathlib.Core.Path.{_≡_, refl, sym, ap, ap₂, _∙_, subst⁻¹}
+use mathlib.Core.Bool.{Bool}
+use mathlib.Core.List.{List, [], _∷_, map}
+use Prim.Native.Nat.{ℕ, suc}
+use lib.Dec.{T}
+use lib.ListN.{length}
+use Rattle.bits.specs.Bits.{cut}
+use Rattle.bits.proofs.Cut.{cut-suc}
+use Rattle.order.specs.Order.{Order, logicalBit}
+use Rattle.frame.specs.Layout.{frame}
+use Rattle.frame.specs.Reads.{read}
+use Rattle.frame.proofs.Ranges.{sendable-fits}
+use Rattle.receiver.specs.Records.{valid}
+use Rattle.receiver.specs.Steps.{accepted}
+use Rattle.receiver.specs.Receiving.{receive}
+use Rattle.receiver.specs.declared.FrameResult.{FrameResult}
+use Rattle.receiver.specs.declared.Record.{Record}
+use Rattle.receiver.specs.declared.ReceiveAnswer.{ReceiveAnswer}
+use Rattle.receiver.specs.declared.ReceiveAnswer.the-variants.{Result}
+use Rattle.receiver.specs.declared.Received.{Received}
+use Rattle.receiver.proofs.Answers.{resultIn, step-answers}
+use Rattle.receiver.proofs.Results.{packed-accepted, arrived-taken}
+use Rattle.receiver.proofs.Validity.{accepted-valid}
+use Rattle.calls.specs.Model.{Answer, done, outcomes, answerOf, receiveModel}
+use Rattle.calls.specs.Observed.{sent}
+use Rattle.calls.specs.Frames.{Row, setOf}
+use Rattle.calls.proofs.Rows.{Known, Chain, arrived}
+
+module _ (ord : List ℕ) (o : Order ord) where
+  -- each row has the channel's flips of its frame
+  pub chain-flips : (r u : Record) (flips : ℕ → ℕ → Bool) (ws : List Row) → Chain ord r u flips ws → map (λ w. w .flips) ws ≡ cut flips 0 (length ws)
+  chain-flips r u flips [] h = refl
+  chain-flips r u flips (w ∷ ws) h =
+      ap₂ (λ (f : ℕ → Bool) (l : List (ℕ → Bool)). f ∷ l) (h .1)
+      (chain-flips _ _ (λ k. flips (suc k)) ws (h .2) ∙ sym (cut-suc flips 0 (length ws)))
+
+  -- its receiving call answered with its result
+  pub chain-answers : (r u : Record) (flips : ℕ → ℕ → Bool) (ws : List Row) → Chain ord r u flips ws
+      → map (λ w. w .receiving .answer) ws ≡ map (λ w. Result (w .result)) ws
+  chain-answers r u flips [] h = refl
+  chain-answers r u flips (w ∷ ws) h =
+      let k = h .0 in
+      let e = arrived-taken ord o r (k .is-valid) (w .packing .given) (w .flips) (setOf w) in
+      let whole : receive ord r (arrived ord w) .answer ≡ Result (resultIn (receive ord r (arrived ord w) .answer)) =
+      subst⁻¹ (λ (y : Received). y .answer ≡ Result (resultIn (y .answer))) e (step-answers r _ (read (logicalBit ord (arrived ord w)))) in
+      ap₂ (λ (a : ReceiveAnswer) (l : List ReceiveAnswer). a ∷ l) (k .answers ∙ whole ∙ ap Result (sym (k .result-is))) (chain-answers _ _ _ ws (h .2))
+
+  -- what the clean receiver makes of the frame as sent
+  clean-takes : (r u : Record) (w : Row) → Known ord r u w → T (valid u)
+      → receive ord u (frame ord (setOf w) (w .packing .given)) ≡ accepted u (w .packing .given) (setOf w) 0
+  clean-takes r u w k v = packed-accepted ord o u v (w .packing .given) (setOf w) (k .may-send)
+
+  -- and keeps a valid record
+  pub clean-stays : (r u : Record) (w : Row) → Known ord r u w → T (valid u) → T (valid (receive ord u (frame ord (setOf w) (w .packing .given)) .next))
+  clean-stays r u w k v =
+      subst⁻¹ (λ (y : Received). T (valid (y .next))) (clean-takes r u w k v)
+      (accepted-valid u (w .packing .given) (setOf w) 0 (sendable-fits (setOf w) (k .may-send)))
+
+  -- the clean results are what the model gives for the frames as packed
+  pub chain-clean : (r u : Record) (flips : ℕ → ℕ → Bool) (ws : List Row) → Chain ord r u flips ws → T (valid u)
+      → map (λ y. y .answer) (outcomes (receiveModel ord) u (map (λ w. sent (w .packing)) ws)) ≡ map (λ w. done (w .clean)) ws
+  unfolding accepted
+  chain-clean r u flips [] h v = refl
+  chain-clean r u flips (w ∷ ws) h v =
+      let k = h .0 in
+      let e = clean-takes r u w k v in
+      let moved : receive ord u (sent (w .packing)) ≡ receive ord u (frame ord (setOf w) (w .packing .given)) = ap (receive ord u) (k .is-sent) in
+      let here : answerOf (receive ord u (sent (w .packing)) .answer) ≡ done (w .clean) =
+      ap (λ (y : Received). answerOf (y .answer)) (moved ∙ e) ∙ sym (ap done (k .clean-is ∙ ap (λ (y : Received). resultIn (y .answer)) e)) in
+      let rest = chain-clean _ _ _ ws (h .2) (clean-stays r u w k v) in
+      ap₂ (λ (a : Answer FrameResult) (l : List (Answer FrameResult)). a ∷ l) here
+      (ap (λ (y : Received). map (λ z. z .answer) (outcomes (receiveModel ord) (y .next) (map (λ x. sent (x .packing)) ws))) moved ∙ rest)

@@ -1,0 +1,60 @@
+-- Packing calls of the code: what the toolchain reads in the contract of `frame::pack` is the model's step.
+-- Assumes nothing.
+use mathlib.Core.Path.{_≡_, refl, sym, ap, ap₂, _∙_, subst⁻¹}
+use mathlib.Core.Bool.{Bool, not}
+use mathlib.Core.List.{List, _++_}
+use Prim.Native.Nat.{ℕ, zero, suc}
+use lib.ListN.{length, take, drop}
+use lib.Seq.{take-append-seam}
+use contract.Lifetimes.{Lfts}
+use borrow.Fn.World.{ArgsD, ResD}
+use denote.Triple.Clauses.{AtExit}
+use Rattle.order.specs.Order.{defaultOrder}
+use Rattle.order.proofs.Frames.{frame-length}
+use Rattle.frame.specs.Layout.{logicalOf, frame}
+use Rattle.frame.specs.Packing.{packRefusal, packedUnless, packAnswer, writtenUnless, packWrites}
+use Rattle.frame.specs.declared.ParameterSet.{ParameterSet}
+use Rattle.frame.specs.declared.PackAnswer.{PackAnswer}
+use Rattle.frame.proofs.pack as pack
+use Rattle.frame.proofs.pack.Reads as pack-reads
+use Rattle.calls.specs.Model.{done, packUnless}
+use Rattle.calls.specs.Observed.{PackCall, PackStep}
+
+-- a call as it is observed
+abbrev pub packCall : ParameterSet → Bool → List ℕ → PackAnswer → List ℕ → PackCall
+packCall set sync lent answer output = record { arguments = record { set = set; lent = lent }; given = sync; answer = answer; output = output }
+
+-- a packing call of the code: some call of `frame::pack`, what it was passed, gave and left, of which its contract holds
+pub record CodePacks (c : PackCall) : Type 0 where
+  pub κs : Lfts 1
+  pub passed : ArgsD pack.signature κs
+  pub gave : ResD pack.signature κs
+  pub left : AtExit pack.ended κs
+  pub contract : pack-reads.Post κs passed gave left
+  pub observed : c ≡ packCall (passed .0) (passed .1 .0) (passed .1 .1 .0 .now) gave (left .1 .1 .0 .now)
+
+module _ (ord : List ℕ) (set : ParameterSet) (sync : Bool) where
+  -- the frame stands in front of what is written
+  front : (rest : List ℕ) → take 7 (frame ord set sync ++ rest) ≡ frame ord set sync
+  front rest =
+      ap (λ (n : ℕ). take n (frame ord set sync ++ rest)) (sym (frame-length ord (logicalOf set sync))) ∙ take-append-seam (frame ord set sync) rest
+
+  -- what the contract says is the model's step, whatever the refusal
+  pub pack-step : (lent : List ℕ) (n : ℕ) → packRefusal set (length lent) ≡ n
+      → PackStep ord (packCall set sync lent (packedUnless n sync) (writtenUnless n ord set sync lent))
+  pack-step lent zero e = record {
+    outcome = (λ i. record { answer = done (front (drop 7 lent) i); state = not sync }) ∙ sym (ap (λ (n : ℕ). packUnless n ord sync set) e);
+    output = ap (λ (l : List ℕ). l ++ drop 7 lent) (sym (front (drop 7 lent)));
+  }
+  pack-step lent (suc n) e = record { outcome = sym (ap (λ (n : ℕ). packUnless n ord sync set) e); output = refl }
+
+-- so a packing call of the code does what the model does
+pub code-packs : (c : PackCall) → CodePacks c → PackStep defaultOrder c
+unfolding packAnswer packWrites
+code-packs c k =
+    let set = k .passed .0 in
+    let sync = k .passed .1 .0 in
+    let lent = k .passed .1 .1 .0 .now in
+    let as-said : c ≡ packCall set sync lent (packAnswer set sync (length lent)) (packWrites set sync lent) =
+    k .observed ∙ ap₂ (packCall set sync lent) (k .contract .0) (k .contract .1) in
+    subst⁻¹ (PackStep defaultOrder) as-said (pack-step defaultOrder set sync lent (packRefusal set (length lent)) refl)

@@ -1,0 +1,12 @@
+pub mod Runs
+pub mod Steps
+pub mod Demand2
+pub mod OneFrame
+pub mod Rows
+pub mod Chains
+pub mod Claims
+pub mod Demand3
+pub mod CodePacks
+pub mod CodeReceives
+pub mod Sessions
+pub mod TheCode

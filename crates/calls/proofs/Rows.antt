@@ -1,0 +1,98 @@
+-- The frames of two lists of calls, none of them refused: a row for each packing call with the receiving call that got its frame.
+-- Assumes nothing.
+use mathlib.Core.Path.{_≡_, refl, ap, ap₂, _∙_, subst}
+use mathlib.Core.Bool.{Bool}
+use mathlib.Core.List.{List, [], _∷_, map, nil≢cons, cons≢nil, head-eq-of-cons-eq, tail-eq-of-cons-eq}
+use Prim.Native.Nat.{ℕ, suc}
+use lib.Dec.{T}
+use Rattle.order.specs.Order.{through}
+use Rattle.frame.specs.Sets.{sendable}
+use Rattle.frame.specs.Layout.{frame}
+use Rattle.receiver.specs.Records.{valid}
+use Rattle.receiver.specs.Receiving.{receive}
+use Rattle.receiver.specs.declared.Record.{Record}
+use Rattle.receiver.specs.declared.Received.{Received}
+use Rattle.receiver.proofs.Answers.{resultIn}
+use Rattle.receiver.proofs.Taken.{not-refused-only}
+use Rattle.calls.specs.Observed.{PackCall, ReceiveCall, sent, PackStep, ReceiveStep, PackRun, ReceiveRun, packCallRefusal, receiveCallRefusal, channel}
+use Rattle.calls.specs.Frames.{Row, setOf}
+use Rattle.calls.proofs.Steps.{pack-sendable, pack-sent, receive-answer, receive-left}
+
+module _ (ord : List ℕ) where
+  -- the frame that a row's receiver gets
+  abbrev pub arrived : Row → List ℕ
+  arrived w = through (w .flips) (frame ord (setOf w) (w .packing .given))
+
+  -- what is known of a row whose receiver has the record r, and the clean receiver u
+  pub record Known (r u : Record) (w : Row) : Type 0 where
+    pub may-send : T (sendable (setOf w))
+    pub is-sent : sent (w .packing) ≡ frame ord (setOf w) (w .packing .given)
+    pub is-valid : T (valid r)
+    pub answers : w .receiving .answer ≡ receive ord r (arrived w) .answer
+    pub leaves : w .receiving .left ≡ receive ord r (arrived w) .next
+    pub result-is : w .result ≡ resultIn (receive ord r (arrived w) .answer)
+    pub clean-is : w .clean ≡ resultIn (receive ord u (frame ord (setOf w) (w .packing .given)) .answer)
+
+  -- rows in which both receivers go on from row to row, and the channel from frame to frame
+  abbrev pub Chain : Record → Record → (ℕ → ℕ → Bool) → List Row → Type 0
+  Chain r u flips [] = Unit
+  Chain r u flips (w ∷ ws) =
+      Known r u w × (w .flips ≡ flips 0)
+      × Chain (receive ord r (arrived w) .next) (receive ord u (frame ord (setOf w) (w .packing .given)) .next) (λ k. flips (suc k)) ws
+
+  -- a call that keeps to the model and is not refused
+  abbrev pub Packs : PackCall → Type 0
+  Packs c = PackStep ord c × (packCallRefusal c ≡ 0)
+
+  abbrev pub Receives : ReceiveCall → Type 0
+  Receives c = ReceiveStep ord c × (receiveCallRefusal c ≡ 0)
+
+  -- the row of a packing call and the receiving call that got its frame
+  abbrev rowOf : Record → (ℕ → Bool) → PackCall → ReceiveCall → Row
+  rowOf u fl p q = record {
+    packing = p;
+    flips = fl;
+    receiving = q;
+    result = resultIn (q .answer);
+    clean = resultIn (receive ord u (frame ord (p .arguments .set) (p .given)) .answer);
+  }
+
+  row-known : (r u : Record) (fl : ℕ → Bool) (p : PackCall) (q : ReceiveCall) → Packs p → Receives q → q .given ≡ r → q .frame ≡ through fl (sent p)
+      → Known r u (rowOf u fl p q)
+  row-known r u fl p q k l g e =
+      let same : q .frame ≡ through fl (frame ord (p .arguments .set) (p .given)) = e ∙ ap (through fl) (pack-sent ord p (k .0) (k .1)) in
+      let there : receive ord (q .given) (q .frame) ≡ receive ord r (through fl (frame ord (p .arguments .set) (p .given))) = ap₂ (receive ord) g same in
+      let answer = receive-answer ord q (l .0) ∙ ap (λ (y : Received). y .answer) there in
+      record {
+        may-send = pack-sendable ord p (k .0) (k .1);
+        is-sent = pack-sent ord p (k .0) (k .1);
+        is-valid = subst (λ (y : Record). T (valid y)) g (not-refused-only (q .given) (q .frame) (l .1) .1);
+        answers = answer;
+        leaves = receive-left ord q (l .0) ∙ ap (λ (y : Received). y .next) there;
+        result-is = ap resultIn answer;
+        clean-is = refl;
+      }
+
+  -- the rows of two lists of calls
+  pub record Aligned (r u : Record) (flips : ℕ → ℕ → Bool) (ps : List PackCall) (qs : List ReceiveCall) : Type 0 where
+    pub rows : List Row
+    pub packings : map (λ w. w .packing) rows ≡ ps
+    pub receivings : map (λ w. w .receiving) rows ≡ qs
+    pub chain : Chain r u flips rows
+
+  -- where the receiving calls get exactly what the channel hands on, there are such rows
+  pub aligned : (s : Bool) (r u : Record) (flips : ℕ → ℕ → Bool) (ps : List PackCall) (qs : List ReceiveCall) → PackRun Packs s ps → ReceiveRun Receives r qs
+      → map (λ c. c .frame) qs ≡ channel flips (map sent ps) → Aligned r u flips ps qs
+  aligned s r u flips [] [] h j e = record { rows = []; packings = refl; receivings = refl; chain = tt }
+  aligned s r u flips [] (q ∷ qs) h j e = absurd (cons≢nil e)
+  aligned s r u flips (p ∷ ps) [] h j e = absurd (nil≢cons e)
+  aligned s r u flips (p ∷ ps) (q ∷ qs) h j e =
+      let here : Known r u (rowOf u (flips 0) p q) = row-known r u (flips 0) p q (h .1) (j .1) (j .0) (head-eq-of-cons-eq e) in
+      let goes-on = subst (λ (y : Record). ReceiveRun Receives y qs) (here .leaves) (j .2) in
+      let rest = aligned _ _ (receive ord u (frame ord (p .arguments .set) (p .given)) .next) (λ k. flips (suc k)) ps qs (h .2) goes-on (tail-eq-of-cons-eq e) in
+      record {
+        rows = rowOf u (flips 0) p q ∷ rest .rows;
+        packings = ap (λ (l : List PackCall). p ∷ l) (rest .packings);
+        receivings = ap (λ (l : List ReceiveCall). q ∷ l) (rest .receivings);
+        chain = (here, refl, rest .chain);
+      }

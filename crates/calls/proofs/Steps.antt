@@ -1,0 +1,88 @@
+-- What a single call gives that does what the model does: refused, it leaves its state; not refused, a packing call gives the frame
+-- of a set that may be sent, and a receiving call the receiver's answer and record.
+-- Assumes nothing.
+use mathlib.Core.Path.{_≡_, refl, sym, ap, _∙_, subst}
+use mathlib.Core.Bool.{Bool, true, false, cond}
+use mathlib.Core.List.{List}
+use Prim.Native.Nat.{ℕ, suc}
+use native.Mathlib.Omega.{arith}
+use lib.Dec.{T, ltb}
+use lib.ListN.{length}
+use Rattle.frame.specs.Sets.{sendable}
+use Rattle.frame.specs.Layout.{frame}
+use Rattle.frame.specs.Packing.{packRefusal}
+use Rattle.frame.specs.declared.ParameterSet.{ParameterSet}
+use Rattle.frame.specs.declared.PackAnswer.{PackAnswer}
+use Rattle.frame.specs.declared.PackAnswer.the-variants.{Packed, Refused}
+use Rattle.receiver.specs.Receiving.{receive}
+use Rattle.receiver.specs.declared.FrameResult.{FrameResult}
+use Rattle.receiver.specs.declared.Record.{Record}
+use Rattle.receiver.specs.declared.ReceiveAnswer.{ReceiveAnswer}
+use Rattle.receiver.specs.declared.ReceiveAnswer.the-variants as answer
+use Rattle.receiver.proofs.Taken.{receive-refused}
+use Rattle.calls.specs.Model.{Answer, done, refused, Outcome, packUnless, answerOf}
+use Rattle.calls.specs.Observed.{PackCall, ReceiveCall, packLeft, sent, packAnswerOf}
+use Rattle.calls.specs.Observed.{PackStep, ReceiveStep, packCallRefusal, receiveCallRefusal}
+
+-- a set that packing does not refuse may be sent
+sendable-only : (set : ParameterSet) (room : ℕ) → packRefusal set room ≡ 0 → T (sendable set)
+sendable-only set room e = go (ltb room 7) (sendable set) refl e
+  where
+    go : (a b : Bool) → sendable set ≡ b → _≡_ {A = ℕ} (cond a 1 (cond b 0 5)) 0 → T (sendable set)
+    go true b f z = absurd (omega arith)
+    go false true f z = subst T (sym f) tt
+    go false false f z = absurd (omega arith)
+
+-- the value in an answer, and a given one where there is none
+valueOr : {A : Type 0} → A → Answer A → A
+valueOr d (done x) = x
+valueOr d (refused n) = d
+
+bytes-in : (a : PackAnswer) (bytes : List ℕ) → valueOr bytes (packAnswerOf a bytes) ≡ bytes
+unfolding valueOr
+bytes-in (Packed next) bytes = refl
+bytes-in (Refused n) bytes = refl
+
+-- an answer of the model as the call's own
+back : Answer FrameResult → ReceiveAnswer
+back (done x) = answer.Result x
+back (refused n) = answer.Refused n
+
+back-is : (a : ReceiveAnswer) → back (answerOf a) ≡ a
+unfolding back
+back-is (answer.Result x) = refl
+back-is (answer.Refused n) = refl
+
+module _ (ord : List ℕ) where
+  module _ (c : PackCall) (k : PackStep ord c) where
+    -- a refused packing call leaves the sync bit
+    pub pack-leaves : (n : ℕ) → packCallRefusal c ≡ suc n → packLeft c ≡ c .given
+    pack-leaves n e =
+        ap (λ (y : Outcome (List ℕ) Bool). y .state) (k .outcome ∙ ap (λ (m : ℕ). packUnless m ord (c .given) (c .arguments .set)) e)
+
+    module _ (e : packCallRefusal c ≡ 0) where
+      -- a packing call that is not refused has a set that may be sent
+      pub pack-sendable : T (sendable (c .arguments .set))
+      pack-sendable = sendable-only (c .arguments .set) (length (c .arguments .lent)) e
+
+      -- and its seven bytes are the frame of the set with the sync bit it was given
+      pub pack-sent : sent c ≡ frame ord (c .arguments .set) (c .given)
+      unfolding valueOr
+      pack-sent =
+          sym (bytes-in (c .answer) (sent c))
+          ∙ ap (λ (y : Outcome (List ℕ) Bool). valueOr (sent c) (y .answer))
+          (k .outcome ∙ ap (λ (m : ℕ). packUnless m ord (c .given) (c .arguments .set)) e)
+
+  module _ (c : ReceiveCall) (k : ReceiveStep ord c) where
+    -- a receiving call gives the receiver's answer
+    pub receive-answer : c .answer ≡ receive ord (c .given) (c .frame) .answer
+    receive-answer =
+        sym (back-is (c .answer)) ∙ ap (λ (y : Outcome FrameResult Record). back (y .answer)) k ∙ back-is (receive ord (c .given) (c .frame) .answer)
+
+    -- and its record
+    pub receive-left : c .left ≡ receive ord (c .given) (c .frame) .next
+    receive-left = ap (λ (y : Outcome FrameResult Record). y .state) k
+
+    -- a refused one leaves the record
+    pub receive-leaves : (n : ℕ) → receiveCallRefusal c ≡ suc n → c .left ≡ c .given
+    receive-leaves n e = receive-left ∙ receive-refused ord (c .given) (c .frame) n e

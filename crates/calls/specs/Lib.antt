@@ -1,0 +1,5 @@
+pub mod Model
+pub mod Observed
+pub mod Return
+pub mod Frames
+pub mod Claim
