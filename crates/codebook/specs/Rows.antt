@@ -1,0 +1,73 @@
+-- Document 01, "LSF and magnitude values": the rows of a codebook (document 01's book). Numbers are in millionths, of a hertz for LSF.
+use Prim.Native.Nat.{ℕ, zero, suc, _+_, _*_}
+use mathlib.Core.Bool.{Bool, true, _&&_, cond}
+use mathlib.Core.List.{List, [], _∷_}
+use lib.Dec.{leb, ltb, eqb}
+use lib.ListN.{length, take, drop}
+use lib.IntN.{ℤ, pos, negℤ}
+use lib.Signed.{leZ}
+
+-- how many numbers the LSF codebook has: 320 rows of ten
+abbrev pub lsfSize : ℕ
+lsfSize = 3200
+
+-- and the magnitude codebook: 256 rows of ten
+abbrev pub magnitudeSize : ℕ
+magnitudeSize = 2560
+
+-- the rows of a stage: 128 in stage 1, 64 in each of stages 2 to 4, and there is no other stage
+abbrev pub stageRows : ℕ → ℕ
+stageRows stage = cond (eqb stage 1) 128 (cond (leb 2 stage && leb stage 4) 64 0)
+
+-- how many rows stand before a stage: those of all stages below it
+unfoldable pub stageStart : ℕ → ℕ
+stageStart zero = 0
+stageStart (suc stage) = stageStart stage + stageRows stage
+
+-- row k of a codebook, counted from 0
+abbrev pub rowAt : List ℤ → ℕ → List ℤ
+rowAt codebook k = take 10 (drop (10 * k) codebook)
+
+-- the row of a stage that an index names
+abbrev pub lsfRow : List ℤ → ℕ → ℕ → List ℤ
+lsfRow codebook stage index = rowAt codebook (stageStart stage + index)
+
+-- the row of magnitudes that an index names
+abbrev pub magnitudeRow : List ℤ → ℕ → List ℤ
+magnitudeRow codebook index = rowAt codebook index
+
+-- the limits of an entry, both ends included
+abbrev pub between : ℤ → ℤ → ℤ → Bool
+between least most z = leZ least z && leZ z most
+
+-- an LSF entry: 4,000 Hz on either side of 0
+abbrev pub lsfFits : ℤ → Bool
+lsfFits = between (negℤ (pos 4000000000)) (pos 4000000000)
+
+-- a magnitude: 0 to 4
+abbrev pub magnitudeFits : ℤ → Bool
+magnitudeFits = between (pos 0) (pos 4000000)
+
+-- whether every number of a list is within its limits
+unfoldable pub allFit : (ℤ → Bool) → List ℤ → Bool
+allFit fits [] = true
+allFit fits (z ∷ zs) = fits z && allFit fits zs
+
+-- the refusal, 0 is none: 5 unless the parameter is in range, then 6 unless the codebook is whole, then 7 unless the entries in use fit
+abbrev pub refusal : Bool → Bool → Bool → ℕ
+refusal inRange whole fit = cond inRange (cond whole (cond fit 0 7) 6) 5
+
+-- the refusal of a row of a stage: an index past the rows of its stage is out of range, and so is any index of another stage
+abbrev pub lsfRowRefusal : List ℤ → ℕ → ℕ → ℕ
+lsfRowRefusal codebook stage index =
+    refusal (ltb index (stageRows stage)) (eqb (length codebook) lsfSize) (allFit lsfFits (lsfRow codebook stage index))
+
+-- the refusal of a row of magnitudes
+abbrev pub magnitudeRowRefusal : List ℤ → ℕ → ℕ
+magnitudeRowRefusal codebook index =
+    refusal (ltb index 256) (eqb (length codebook) magnitudeSize) (allFit magnitudeFits (magnitudeRow codebook index))
+
+-- what is handed out: the row, or a part of no numbers where it is refused
+abbrev pub rowUnless : ℕ → List ℤ → List ℤ
+rowUnless zero row = row
+rowUnless (suc n) row = []
