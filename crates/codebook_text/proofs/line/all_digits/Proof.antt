@@ -1,0 +1,62 @@
+-- `codebook_text::line::all_digits` meets its contract: the bytes passed are digits, so the test goes by those to come. Assumes nothing.
+use mathlib.Core.Path.{_≡_, refl}
+use mathlib.Core.Bool.{true, false, _&&_}
+use Prim.Native.Nat.{_+_, _-_, _≤_, _<_}
+use native.Mathlib.Omega.{arith}
+use lib.ListN.{length, drop, getD}
+use borrow.Author.Tests.{not-true, not-false}
+use Rattle.codebook_text.specs.Text.{allDigits, isDigit}
+use Rattle.codebook_text.proofs.Magnitudes.{digits-step, digits-out}
+use borrow.Author.Needs.{needs}
+use Rattle.codebook_text.proofs.line.all_digits.Statement.{statement}
+use Rattle.codebook_text.proofs.line.all_digits.Tie as tie
+
+abbrev Inv-loop : tie.InvT-loop
+Inv-loop digits i₀ i-end i = (i-end ≡ length digits) × (i ≤ length digits) × (allDigits digits ≡ allDigits (drop i digits))
+
+abbrev μ-loop : tie.MeasureT-loop
+μ-loop digits i₀ i-end i = length digits - i
+
+loop-holds : tie.Need-loop-holds Inv-loop μ-loop
+loop-holds c = search needs
+
+shared-slice-read-is-digit : tie.Need-shared-slice-read-is-digit Inv-loop μ-loop
+shared-slice-read-is-digit c = omega arith
+
+is-digit-requires : tie.Need-is-digit-requires Inv-loop μ-loop
+is-digit-requires c κs = search needs
+
+returns : tie.Need-returns Inv-loop μ-loop
+returns c =
+    let L = c .before .before .before .before .loop in
+    let s = c .before .before .before .before .before .before .args .digits .now in
+    let h : L .i < length s = omega arith in
+    let f : isDigit (getD s (L .i) 0) ≡ false = cc (not-true (c .before .is-digit .result) (c .if1 .taken)) in
+    let d : isDigit (getD s (L .i) 0) && allDigits (drop (L .i + 1) s) ≡ false = rw f refl in
+    cc (digits-step s (L .i) h)
+
+add-i : tie.Need-add-i Inv-loop μ-loop
+add-i c = omega arith
+
+loop-less : tie.Need-loop-less Inv-loop μ-loop
+loop-less c = omega arith
+
+loop-again : tie.Need-loop-again Inv-loop μ-loop
+loop-again c =
+    let L = c .before .before .before .before .loop in
+    let s = c .before .before .before .before .before .before .args .digits .now in
+    let h : L .i < length s = omega arith in
+    let f : isDigit (getD s (L .i) 0) ≡ true = cc (not-false (c .before .is-digit .result) (c .if1 .left)) in
+    let d : isDigit (getD s (L .i) 0) && allDigits (drop (L .i + 1) s) ≡ allDigits (drop (L .i + 1) s) = rw f refl in
+    (omega arith, omega arith, cc (digits-step s (L .i) h))
+
+returns-2 : tie.Need-returns-2 Inv-loop μ-loop
+returns-2 c =
+    let s = c .before .before .before .args .digits .now in
+    let h : length s ≤ c .before .loop .i = omega arith in
+    cc (digits-out s (c .before .loop .i) h)
+
+pub all-digits-spec : {M : Type 1} → statement M
+all-digits-spec =
+    tie.close
+    (tie.spec Inv-loop μ-loop loop-holds shared-slice-read-is-digit is-digit-requires returns add-i loop-less loop-again returns-2)

@@ -1,0 +1,15 @@
+-- `codebook_text::line::is_magnitude` meets its contract: the three tests of the definition. Assumes nothing.
+use Rattle.codebook_text.specs.Text.{isMagnitude}
+use borrow.Author.Needs.{needs}
+use Rattle.codebook_text.proofs.line.is_magnitude.Statement.{statement}
+use Rattle.codebook_text.proofs.line.is_magnitude.Tie as tie
+
+all-digits-requires : tie.Need-all-digits-requires
+all-digits-requires c κs = search needs
+
+returns : tie.Need-returns
+unfolding isMagnitude
+returns c = cc
+
+pub is-magnitude-spec : {M : Type 1} → statement M
+is-magnitude-spec = tie.close (tie.spec all-digits-requires returns)
