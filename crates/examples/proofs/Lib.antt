@@ -1,1 +1,2 @@
+pub mod Muted
 pub mod Proved

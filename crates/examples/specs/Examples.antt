@@ -1,22 +1,35 @@
 -- Document 01, "Examples", in its own numbers. Bits are written in binary, first bit first.
-use Prim.Native.Nat.{ℕ}
+use Prim.Native.Nat.{ℕ, _*_}
 use mathlib.Core.Path.{_≡_}
-use mathlib.Core.List.{List, [], _∷_}
-use lib.IntN.{pos}
+use mathlib.Core.Bool.{Bool, true, false}
+use mathlib.Core.List.{List, [], _∷_, map}
+use lib.Dec.{eqb}
+use lib.IntN.{ℤ, pos}
+use lib.ListN.{length}
 use Rattle.bits.specs.Bits.{bits}
 use Rattle.pitch.specs.Pitch.{classAnswer}
 use Rattle.pitch.specs.declared.PitchClass.the-variants as pitch
 use Rattle.pitch.specs.declared.ClassAnswer.the-variants.{Class}
 use Rattle.hamming.specs.Word.{parityOf, encode, flipAt, decode}
 use Rattle.hamming.specs.declared.Decoded.the-variants.{Read, Erased}
-use Rattle.order.specs.Order.{defaultOrder}
+use Rattle.order.specs.Order.{times, defaultOrder, logicalBit, frameRefusal, through}
 use Rattle.gain.specs.Levels.{firstLevelAnswer}
 use Rattle.gain.specs.Choice.{chosenG2, chosenG1}
 use Rattle.gain.specs.declared.LevelAnswer.the-variants.{Level}
 use Rattle.frame.specs.Layout.{frame}
 use Rattle.frame.specs.Packing.{freshSync}
+use Rattle.frame.specs.Reads.{read}
 use Rattle.frame.specs.declared.ParameterSet.{ParameterSet}
 use Rattle.frame.specs.declared.ParameterSet.the-variants.{Unvoiced}
+use Rattle.frame.specs.declared.Reading.the-variants as reading
+use Rattle.receiver.specs.Records.{fresh}
+use Rattle.receiver.specs.Receiving.{receive}
+use Rattle.receiver.specs.declared.FrameResult.{FrameResult}
+use Rattle.receiver.specs.declared.Kind.the-variants as kind
+use Rattle.receiver.specs.declared.ReceiveAnswer.the-variants.{Result}
+use Rattle.codebook.specs.Values.{spacing, raised}
+use Rattle.calls.specs.Model.{Answer, done, refused, outcomes, receiveModel}
+use Rattle.bits.specs.Lists.{Every}
 
 -- 1: classes of pitch codes
 pub record PitchCodes : Type 0 where
@@ -61,6 +74,52 @@ ninetyBytes = 0x80 ∷ 0x56 ∷ 0x0D ∷ 0x40 ∷ 0x15 ∷ 0x00 ∷ 0x10 ∷ []
 pub record Frames : Type 0 where
   pub ninety-packed : frame defaultOrder ninety freshSync ≡ ninetyBytes
 
+-- 7: that frame with two places changed, in a fresh receiver: as sent and both flips counted, or a repeat of the fresh record's set
+abbrev pub changed : List ℕ → List ℕ
+changed places = through (λ t. eqb (times t places) 1) ninetyBytes
+
+pub record TwoFlips : Type 0 where
+  pub repaired : receive defaultOrder fresh (changed (0 ∷ 6 ∷ [])) .answer ≡ Result (record {
+    kind = kind.Unvoiced;
+    set = ninety;
+    first = 4071;
+    second = 6282;
+    mute = false;
+    sync = false;
+    repaired = 2;
+  })
+  pub repeats : receive defaultOrder fresh (changed (0 ∷ 7 ∷ [])) .answer ≡ Result (record {
+    kind = kind.Repeat;
+    set = fresh .last;
+    first = 1860;
+    second = 1860;
+    mute = false;
+    sync = false;
+    repaired = 0;
+  })
+
+-- 8: ten sums in hertz, of which the second is too close to the first
+abbrev pub millionths : List ℕ → List ℤ
+millionths hertz = map (λ n. pos (1000000 * n)) hertz
+
+pub record Spacing : Type 0 where
+  pub second-raised : raised spacing (millionths (300 ∷ 340 ∷ 500 ∷ 800 ∷ 1100 ∷ 1400 ∷ 1700 ∷ 2000 ∷ 2300 ∷ 2600 ∷ []))
+      ≡ millionths (300 ∷ 350 ∷ 500 ∷ 800 ∷ 1100 ∷ 1400 ∷ 1700 ∷ 2000 ∷ 2300 ∷ 2600 ∷ [])
+
+-- 9: any eight erased frames from fresh; the seventh is not mute, the eighth is
+pub record Erases (bytes : List ℕ) : Type 0 where
+  pub taken : frameRefusal bytes ≡ 0
+  pub erased : read (logicalBit defaultOrder bytes) ≡ reading.Erased
+
+abbrev pub muteIn : Answer FrameResult → Bool
+muteIn (done x) = x .mute
+muteIn (refused n) = false
+
+pub record Mutes : Type 0 where
+  pub eight : (frames : List (List ℕ)) → length frames ≡ 8 → Every Erases frames
+      → map (λ o. muteIn (o .answer)) (outcomes (receiveModel defaultOrder) fresh frames)
+      ≡ false ∷ false ∷ false ∷ false ∷ false ∷ false ∷ false ∷ true ∷ []
+
 -- all together
 pub record Examples : Type 0 where
   pub example-1 : PitchCodes
@@ -69,3 +128,6 @@ pub record Examples : Type 0 where
   pub example-4 : FirstLevels
   pub example-5 : SecondCodes
   pub example-6 : Frames
+  pub example-7 : TwoFlips
+  pub example-8 : Spacing
+  pub example-9 : Mutes

@@ -1,0 +1,46 @@
+-- Erased frames one after the other: every one is a repeat, so whether it is mute hangs on the kinds before the first alone.
+-- Assumes nothing.
+use mathlib.Core.Path.{_≡_, refl, ap, ap₂, _∙_}
+use mathlib.Core.Bool.{Bool}
+use mathlib.Core.List.{List, [], _∷_, map}
+use Prim.Native.Nat.{ℕ, zero, suc}
+use lib.Dec.{T}
+use lib.ListN.{length}
+use Rattle.order.specs.Order.{defaultOrder, logicalBit}
+use Rattle.receiver.specs.Records.{fresh, valid, pushed, muted}
+use Rattle.receiver.specs.Steps.{repeated, step}
+use Rattle.receiver.specs.Receiving.{receive}
+use Rattle.receiver.specs.declared.FrameKind.the-variants.{Repeat}
+use Rattle.receiver.specs.declared.Past.{Past}
+use Rattle.receiver.specs.declared.Record.{Record}
+use Rattle.receiver.specs.declared.Received.{Received}
+use Rattle.receiver.proofs.Taken.{not-refused, receive-taken}
+use Rattle.receiver.proofs.Validity.{fresh-valid}
+use Rattle.calls.specs.Model.{outcomes, answerOf, receiveModel}
+use Rattle.bits.specs.Lists.{Every}
+use Rattle.examples.specs.Examples.{Erases, muteIn, Mutes}
+
+-- mute after each of n repeats
+abbrev mutesFrom : List Past → ℕ → List Bool
+mutesFrom kinds zero = []
+mutesFrom kinds (suc n) = muted (pushed kinds Repeat) ∷ mutesFrom (pushed kinds Repeat) n
+
+-- an erased frame is a repeat
+erased-repeats : (r : Record) (bytes : List ℕ) → T (valid r) → Erases bytes → receive defaultOrder r bytes ≡ repeated r (logicalBit defaultOrder bytes 53)
+erased-repeats r bytes v e =
+    receive-taken defaultOrder r bytes (not-refused r bytes (e .taken) v) ∙ ap (step r (logicalBit defaultOrder bytes 53)) (e .erased)
+
+erased-mutes : (frames : List (List ℕ)) (r : Record) → T (valid r) → Every Erases frames
+    → map (λ o. muteIn (o .answer)) (outcomes (receiveModel defaultOrder) r frames) ≡ mutesFrom (r .kinds) (length frames)
+unfolding repeated
+erased-mutes [] r v h = refl
+erased-mutes (b ∷ bs) r v h =
+    let e = erased-repeats r b v (h .0) in
+    let here = ap (λ (y : Received). muteIn (answerOf (y .answer))) e in
+    let rest = ap (λ (y : Received). map (λ o. muteIn (o .answer)) (outcomes (receiveModel defaultOrder) (y .next) bs)) e in
+    ap₂ (λ (m : Bool) (ms : List Bool). m ∷ ms) here
+    (rest ∙ erased-mutes bs (record { last = r .last; g2 = r .g2; kinds = pushed (r .kinds) Repeat }) v (h .1))
+
+pub mutes : Mutes
+unfolding fresh
+mutes = record { eight = λ frames n h. erased-mutes frames fresh fresh-valid h ∙ ap (mutesFrom (fresh .kinds)) n }
