@@ -1,10 +1,12 @@
-//! A second implementation of document 01 up to packing: slow, plain, section by section.
+//! A second implementation of document 01 up to receiving: slow, plain, section by section.
 //! Bits are u8 values 0 or 1; lists of bits run most significant first.
 
 /// Refusal numbers that the calls here can give (section "Refusals by place").
 #[derive(Clone, Copy, Debug, PartialEq, Eq)]
 pub enum Refusal {
     Output = 1,
+    FrameLength = 2,
+    Padding = 3,
     Record = 4,
     Parameter = 5,
 }
@@ -47,6 +49,48 @@ pub enum PitchClass {
 pub enum WordReading {
     Erased,
     Data { data: Vec<u8>, repaired: u8 },
+}
+
+/// What the bits of one frame say, before any record is looked at (section "Receiver").
+#[derive(Clone, Copy, Debug, PartialEq, Eq)]
+pub enum Content {
+    Erased,
+    Accepted { set: Set, repaired: u8 },
+}
+
+/// One frame read: its content and its sync bit.
+#[derive(Clone, Copy, Debug, PartialEq, Eq)]
+pub struct FrameReading {
+    pub content: Content,
+    pub sync: u8,
+}
+
+/// Kind of a result (section "Receiver").
+#[derive(Clone, Copy, Debug, PartialEq, Eq)]
+pub enum Kind {
+    Unvoiced,
+    Voiced,
+    Repeat,
+}
+
+/// Result of one received frame (section "Receiver").
+#[derive(Clone, Copy, Debug, PartialEq, Eq)]
+pub struct FrameResult {
+    pub kind: Kind,
+    pub set: Set,
+    pub first_level: i32,
+    pub second_level: i32,
+    pub mute: u8,
+    pub sync: u8,
+    pub repaired: u8,
+}
+
+/// Receiver record; `repeats` tells which of the latest 16 frames were repeats, oldest first.
+#[derive(Clone, Copy, Debug, PartialEq, Eq)]
+pub struct Record {
+    pub last_set: Set,
+    pub last_g2: u8,
+    pub repeats: [bool; 16],
 }
 
 // ---- Numbers and bits ----
@@ -246,7 +290,7 @@ pub fn choose(first: i32, second: i32, q: u8) -> Result<(u8, u8), Refusal> {
     Ok((g2, 1 + nearest(&seven, first)))
 }
 
-// ---- Range tests (section "Parameter sets") ----
+// ---- Range tests (sections "Parameter sets" and "Receiver") ----
 
 /// Whether each field of a set is in its range, B = 1 let through.
 fn set_in_range(set: &Set) -> bool {
@@ -262,6 +306,11 @@ fn set_in_range(set: &Set) -> bool {
 /// Whether the sender takes a set; B = 1 is not valid there (5.3.2).
 pub fn sender_takes(set: &Set) -> bool {
     set_in_range(set) && !matches!(set.voicing, Some(Voicing { bandpass: 1, .. }))
+}
+
+/// Whether every field of a receiver record is in range; B = 1 is.
+pub fn record_in_range(record: &Record) -> bool {
+    set_in_range(&record.last_set) && record.last_g2 <= 31
 }
 
 // ---- Order of the bits (section "Order of the bits") ----
@@ -346,6 +395,15 @@ fn to_places(logical: &[u8; 54]) -> [u8; 54] {
     places
 }
 
+/// Bits by place to bits by logical number.
+fn from_places(places: &[u8; 54]) -> [u8; 54] {
+    let mut logical = [0; 54];
+    for j in 0..54 {
+        logical[j] = places[place_of(j)];
+    }
+    logical
+}
+
 /// Bits by place to the seven bytes, the last two bits 0.
 fn to_bytes(places: &[u8; 54]) -> [u8; 7] {
     let mut bytes = [0; 7];
@@ -353,6 +411,26 @@ fn to_bytes(places: &[u8; 54]) -> [u8; 7] {
         bytes[t / 8] |= places[t] << (7 - t % 8);
     }
     bytes
+}
+
+/// The seven bytes to bits by place.
+fn from_bytes(bytes: &[u8; 7]) -> [u8; 54] {
+    let mut places = [0; 54];
+    for t in 0..54 {
+        places[t] = (bytes[t / 8] >> (7 - t % 8)) & 1;
+    }
+    places
+}
+
+/// Change one place of a frame, as the channel may.
+pub fn flip(frame: &mut [u8; 7], place: usize) {
+    frame[place / 8] ^= 1 << (7 - place % 8);
+}
+
+/// The frame of any set in range, B = 1 let through.
+pub fn frame_of(set: &Set, sync: u8) -> Result<[u8; 7], Refusal> {
+    let logical = logical_bits(set, sync)?;
+    Ok(to_bytes(&to_places(&logical)))
 }
 
 /// Pack a set with the sender's sync bit: the frame and the next sync bit.
@@ -366,6 +444,194 @@ pub fn pack(set: &Set, sync: u8, output_length: usize) -> Result<([u8; 7], u8), 
     if !sender_takes(set) {
         return Err(Refusal::Parameter);
     }
-    let logical = logical_bits(set, sync)?;
-    Ok((to_bytes(&to_places(&logical)), 1 - sync))
+    Ok((frame_of(set, sync)?, 1 - sync))
+}
+
+// ---- Reading a frame (section "Receiver") ----
+
+/// L1, G2 and G1 from the data bits of words A to D.
+fn protected_fields(data: &[Vec<u8>]) -> (u8, u8, u8) {
+    let l1 = number_of(&[&data[0][..], &data[1][..]].concat());
+    let g2 = number_of(&[&data[2][..], &data[3][..1]].concat());
+    let g1 = number_of(&data[3][1..4]);
+    (l1, g2, g1)
+}
+
+/// The four words of a received frame.
+fn received_words(logical: &[u8; 54]) -> [&[u8]; 4] {
+    [
+        &logical[0..8],
+        &logical[8..14],
+        &logical[14..21],
+        &logical[21..28],
+    ]
+}
+
+/// A set from the words' data bits and the bits outside the words.
+fn assemble(data: &[Vec<u8>], logical: &[u8; 54], voicing: Option<Voicing>) -> Set {
+    let (l1, g2, g1) = protected_fields(data);
+    let l2 = number_of(&logical[35..41]);
+    let l3 = number_of(&logical[41..47]);
+    let l4 = number_of(&logical[47..53]);
+    Set {
+        lsf: [l1, l2, l3, l4],
+        g2,
+        g1,
+        voicing,
+    }
+}
+
+/// Read a frame with a voiced pitch code: no word is checked.
+fn read_voiced(logical: &[u8; 54], pitch: u8) -> Content {
+    let words = received_words(logical);
+    let cut = |w: usize| words[w].split_at(data_count(WORD_LENGTHS[w]));
+    let data: Vec<Vec<u8>> = (0..4).map(|w| cut(w).0.to_vec()).collect();
+    let bandpass = number_of(cut(0).1);
+    let fourier = number_of(&[cut(1).1, cut(2).1, &cut(3).1[..2]].concat());
+    let aperiodic = cut(3).1[2];
+    let voicing = Voicing {
+        pitch,
+        bandpass,
+        fourier,
+        aperiodic,
+    };
+    Content::Accepted {
+        set: assemble(&data, logical, Some(voicing)),
+        repaired: 0,
+    }
+}
+
+/// Read a frame with an unvoiced pitch code: check A, repair all four words.
+fn read_unvoiced(logical: &[u8; 54]) -> Content {
+    let mut repaired = ones(&logical[28..35]) as u8;
+    let mut data = Vec::new();
+    for word in received_words(logical) {
+        match decode_word(word.len(), word) {
+            WordReading::Erased => return Content::Erased,
+            WordReading::Data {
+                data: bits,
+                repaired: count,
+            } => {
+                data.push(bits);
+                repaired += count;
+            }
+        }
+    }
+    Content::Accepted {
+        set: assemble(&data, logical, None),
+        repaired,
+    }
+}
+
+/// Read a frame's bytes: refuse 2 or 3, else classify the pitch code and read on.
+pub fn read(bytes: &[u8]) -> Result<FrameReading, Refusal> {
+    if bytes.len() != 7 {
+        return Err(Refusal::FrameLength);
+    }
+    let mut frame = [0; 7];
+    frame.copy_from_slice(bytes);
+    if frame[6] & 0b11 != 0 {
+        return Err(Refusal::Padding);
+    }
+    let logical = from_places(&from_bytes(&frame));
+    let content = match pitch_class(number_of(&logical[28..35]))? {
+        PitchClass::Erased => Content::Erased,
+        PitchClass::Voiced(pitch) => read_voiced(&logical, pitch),
+        PitchClass::Unvoiced => read_unvoiced(&logical),
+    };
+    Ok(FrameReading {
+        content,
+        sync: logical[53],
+    })
+}
+
+// ---- Receiver (section "Receiver") ----
+
+/// The record that a receiver starts with.
+pub fn fresh_record() -> Record {
+    let last_set = Set {
+        lsf: [0; 4],
+        g2: 0,
+        g1: 0,
+        voicing: None,
+    };
+    Record {
+        last_set,
+        last_g2: 0,
+        repeats: [false; 16],
+    }
+}
+
+/// The latest 16 kinds after one more: the oldest goes out.
+fn push_kind(repeats: &[bool; 16], repeat: bool) -> [bool; 16] {
+    let mut next = [repeat; 16];
+    next[..15].copy_from_slice(&repeats[1..]);
+    next
+}
+
+/// Mute bit of the latest 16 kinds.
+fn mute_of(repeats: &[bool; 16]) -> u8 {
+    u8::from(repeats.iter().filter(|r| **r).count() >= 8)
+}
+
+/// Result and next record of an erased frame.
+fn repeat(record: &Record, sync: u8) -> Result<(FrameResult, Record), Refusal> {
+    let last = level(record.last_g2)?;
+    let next = Record {
+        repeats: push_kind(&record.repeats, true),
+        ..*record
+    };
+    let result = FrameResult {
+        kind: Kind::Repeat,
+        set: record.last_set,
+        first_level: last,
+        second_level: last,
+        mute: mute_of(&next.repeats),
+        sync,
+        repaired: 0,
+    };
+    Ok((result, next))
+}
+
+/// Result and next record of an accepted frame.
+fn accept(
+    record: &Record,
+    set: Set,
+    repaired: u8,
+    sync: u8,
+) -> Result<(FrameResult, Record), Refusal> {
+    let repeats = push_kind(&record.repeats, false);
+    let result = FrameResult {
+        kind: if set.voicing.is_some() {
+            Kind::Voiced
+        } else {
+            Kind::Unvoiced
+        },
+        set,
+        first_level: first_level(set.g2, set.g1, record.last_g2)?,
+        second_level: level(set.g2)?,
+        mute: mute_of(&repeats),
+        sync,
+        repaired,
+    };
+    Ok((
+        result,
+        Record {
+            last_set: set,
+            last_g2: set.g2,
+            repeats,
+        },
+    ))
+}
+
+/// Receive one frame: refuse 2, 3 or 4, else the result and the next record.
+pub fn receive(record: &Record, bytes: &[u8]) -> Result<(FrameResult, Record), Refusal> {
+    let frame = read(bytes)?;
+    if !record_in_range(record) {
+        return Err(Refusal::Record);
+    }
+    match frame.content {
+        Content::Erased => repeat(record, frame.sync),
+        Content::Accepted { set, repaired } => accept(record, set, repaired, frame.sync),
+    }
 }

@@ -2,12 +2,12 @@
 
 mod melp;
 
-use melp::{PitchClass, Refusal, Set, Voicing, WordReading};
+use melp::{FrameResult, Kind, PitchClass, Record, Refusal, Set, Voicing, WordReading};
 use std::io::Write;
 use std::process::ExitCode;
 
-/// One record of the output; the layout is in README.md.
-type Vector = [u8; 32];
+/// One vector; the layout is in README.md.
+type Vector = [u8; 64];
 
 // ---- Pseudo-random numbers ----
 
@@ -145,7 +145,7 @@ fn random_output_length(random: &mut Random) -> u8 {
     }
 }
 
-/// Bytes 1..=11 of a pack record.
+/// A set in eleven bytes.
 fn set_bytes(set: &Set) -> [u8; 11] {
     let [l1, l2, l3, l4] = set.lsf;
     let lacking = Voicing {
@@ -171,7 +171,7 @@ fn set_bytes(set: &Set) -> [u8; 11] {
     ]
 }
 
-/// A pack record.
+/// A vector of packing.
 fn pack_vector(random: &mut Random) -> Vector {
     let mut set = random_set(random);
     if random.once_in(4) {
@@ -179,7 +179,7 @@ fn pack_vector(random: &mut Random) -> Vector {
     }
     let sync = random.inside(1);
     let output_length = random_output_length(random);
-    let mut vector = [0; 32];
+    let mut vector = [0; 64];
     vector[0] = 1;
     vector[1..=11].copy_from_slice(&set_bytes(&set));
     vector[12] = sync;
@@ -196,10 +196,10 @@ fn pack_vector(random: &mut Random) -> Vector {
 
 // ---- Kinds 2 and 3: pitch ----
 
-/// A record of the class of a pitch code.
+/// A vector of the class of a pitch code.
 fn class_vector(random: &mut Random) -> Vector {
     let code = random.around(127);
-    let mut vector = [0; 32];
+    let mut vector = [0; 64];
     vector[0] = 2;
     vector[1] = code;
     match melp::pitch_class(code) {
@@ -214,10 +214,10 @@ fn class_vector(random: &mut Random) -> Vector {
     vector
 }
 
-/// A record of the code of a pitch index.
+/// A vector of the code of a pitch index.
 fn code_vector(random: &mut Random) -> Vector {
     let index = random.around(98);
-    let mut vector = [0; 32];
+    let mut vector = [0; 64];
     vector[0] = 3;
     vector[1] = index;
     match melp::pitch_code(index) {
@@ -234,11 +234,11 @@ fn largest(bits: usize) -> u8 {
     ((1u32 << bits) - 1) as u8
 }
 
-/// A record of reading a word.
+/// A vector of reading a word.
 fn word_vector(random: &mut Random) -> Vector {
     let length: usize = random.pick(&[6, 7, 8]);
     let word = random.inside(largest(length));
-    let mut vector = [0; 32];
+    let mut vector = [0; 64];
     vector[0] = 4;
     vector[1] = length as u8;
     vector[2] = word;
@@ -252,12 +252,12 @@ fn word_vector(random: &mut Random) -> Vector {
     vector
 }
 
-/// A record of the parity of a word.
+/// A vector of the parity of a word.
 fn parity_vector(random: &mut Random) -> Vector {
     let length: usize = random.pick(&[6, 7, 8]);
     let count = melp::data_count(length);
     let data = random.inside(largest(count));
-    let mut vector = [0; 32];
+    let mut vector = [0; 64];
     vector[0] = 5;
     vector[1] = length as u8;
     vector[2] = data;
@@ -275,7 +275,7 @@ fn put_level(vector: &mut Vector, at: usize, answer: Result<i32, Refusal>) {
     }
 }
 
-/// A record of the first level.
+/// A vector of the first level.
 fn first_level_vector(random: &mut Random) -> Vector {
     let mut arguments = [random.inside(31), random.inside(7), random.inside(31)];
     if random.once_in(4) {
@@ -283,17 +283,17 @@ fn first_level_vector(random: &mut Random) -> Vector {
         arguments[field] = random.outside([31, 7, 31][field]);
     }
     let [g2, code, q] = arguments;
-    let mut vector = [0; 32];
+    let mut vector = [0; 64];
     vector[0] = 6;
     vector[1..=3].copy_from_slice(&arguments);
     put_level(&mut vector, 4, melp::first_level(g2, code, q));
     vector
 }
 
-/// A record of the second level.
+/// A vector of the second level.
 fn second_level_vector(random: &mut Random) -> Vector {
     let g2 = random.around(31);
-    let mut vector = [0; 32];
+    let mut vector = [0; 64];
     vector[0] = 7;
     vector[1] = g2;
     put_level(&mut vector, 2, melp::level(g2));
@@ -373,13 +373,13 @@ fn random_first_level(random: &mut Random, g2: u8, q: u8) -> i32 {
     chosen.unwrap_or(0)
 }
 
-/// A record of choosing both codes.
+/// A vector of choosing both codes.
 fn choose_vector(random: &mut Random) -> Vector {
     let second = random_second_level(random);
     let g2 = melp::choose(0, second, 0).map_or(0, |codes| codes.0);
     let q = random_q(random, g2);
     let first = random_first_level(random, g2, q);
-    let mut vector = [0; 32];
+    let mut vector = [0; 64];
     vector[0] = 8;
     vector[1..=4].copy_from_slice(&first.to_be_bytes());
     vector[5..=8].copy_from_slice(&second.to_be_bytes());
@@ -394,11 +394,193 @@ fn choose_vector(random: &mut Random) -> Vector {
     vector
 }
 
+// ---- Kind 9: receive ----
+
+/// First and last logical bit of words A to D and of the pitch code.
+const FIELDS: [(usize, usize); 5] = [(0, 7), (8, 13), (14, 20), (21, 27), (28, 34)];
+
+/// Which of the latest 16 frames were repeats, often about as many as mute needs.
+fn random_repeats(random: &mut Random) -> [bool; 16] {
+    let count = match random.below(6) {
+        0 => 0,
+        1 => random.between(0, 16),
+        _ => random.between(6, 9),
+    };
+    let all: Vec<usize> = (0..16).collect();
+    let mut repeats = [false; 16];
+    for i in some_of(random, &all, count as usize) {
+        repeats[i] = true;
+    }
+    repeats
+}
+
+/// A record in range, its last G2 often not the one of its last set.
+fn random_record(random: &mut Random) -> Record {
+    if random.once_in(12) {
+        return melp::fresh_record();
+    }
+    let last_set = random_set(random);
+    let other = random.inside(31);
+    Record {
+        last_set,
+        last_g2: random.pick(&[last_set.g2, other]),
+        repeats: random_repeats(random),
+    }
+}
+
+/// Put one field of a record out of its range.
+fn spoil_record(random: &mut Random, record: &mut Record) {
+    if random.once_in(4) {
+        record.last_g2 = random.outside(31);
+    } else {
+        spoil(random, &mut record.last_set);
+    }
+}
+
+/// So many different ones of the given numbers.
+fn some_of(random: &mut Random, numbers: &[usize], count: usize) -> Vec<usize> {
+    let mut left = numbers.to_vec();
+    (0..count.min(left.len()))
+        .map(|_| left.swap_remove(random.below(left.len() as u64) as usize))
+        .collect()
+}
+
+/// Places of a word or of the pitch code.
+fn places_of_field(field: (usize, usize)) -> Vec<usize> {
+    (field.0..=field.1).map(melp::place_of).collect()
+}
+
+/// At most one place of each word and of the pitch code.
+fn one_in_each(random: &mut Random) -> Vec<usize> {
+    let mut flips = Vec::new();
+    for field in FIELDS {
+        let count = random.below(2) as usize;
+        flips.extend(some_of(random, &places_of_field(field), count));
+    }
+    flips
+}
+
+/// Two places of word A or of the pitch code, which erase an unvoiced frame.
+fn two_that_erase(random: &mut Random) -> Vec<usize> {
+    let field = random.pick(&[FIELDS[0], FIELDS[4]]);
+    some_of(random, &places_of_field(field), 2)
+}
+
+/// Places that the channel changes: none, anywhere, in a burst, light, erasing, or in one field.
+fn random_flips(random: &mut Random) -> Vec<usize> {
+    let count = random.pick(&[1, 1, 2, 2, 3, 4, 5, 6]);
+    match random.below(10) {
+        0 => Vec::new(),
+        1 => some_of(random, &(0..54).collect::<Vec<usize>>(), count),
+        2 => {
+            let start = random.below(48) as usize;
+            some_of(random, &(start..start + 7).collect::<Vec<usize>>(), count)
+        }
+        3 | 4 => one_in_each(random),
+        5 | 6 => two_that_erase(random),
+        _ => {
+            let field = random.pick(&FIELDS);
+            some_of(random, &places_of_field(field), count)
+        }
+    }
+}
+
+/// Any 54 bits.
+fn random_bits(random: &mut Random) -> [u8; 7] {
+    let mut frame = [0; 7];
+    frame.copy_from_slice(&random.next().to_be_bytes()[..7]);
+    frame[6] &= 0xFC;
+    frame
+}
+
+/// The frame of some set, with flips.
+fn random_sent_frame(random: &mut Random) -> [u8; 7] {
+    let set = random_set(random);
+    let sync = random.inside(1);
+    let mut frame = melp::frame_of(&set, sync).expect("a set in range");
+    for place in random_flips(random) {
+        melp::flip(&mut frame, place);
+    }
+    frame
+}
+
+/// The bytes handed to a receiver: mostly a frame, sometimes of another length or with its last bits set.
+fn random_received(random: &mut Random) -> Vec<u8> {
+    let mut frame = if random.once_in(8) {
+        random_bits(random)
+    } else {
+        random_sent_frame(random)
+    };
+    if random.once_in(12) {
+        frame[6] |= random.pick(&[1, 2, 3]);
+    }
+    let mut bytes = frame.to_vec();
+    if random.once_in(12) {
+        bytes.extend([random.inside(255), random.inside(255)]);
+        bytes.truncate(random.between(0, 9) as usize);
+    }
+    bytes
+}
+
+/// A record in fourteen bytes: last set, last G2, and a bit for each kind, the oldest most significant.
+fn record_bytes(record: &Record) -> [u8; 14] {
+    let kinds = record.repeats.map(u8::from);
+    let mut bytes = [0; 14];
+    bytes[..11].copy_from_slice(&set_bytes(&record.last_set));
+    bytes[11] = record.last_g2;
+    bytes[12] = melp::number_of(&kinds[..8]);
+    bytes[13] = melp::number_of(&kinds[8..]);
+    bytes
+}
+
+/// A result in nineteen bytes.
+fn result_bytes(result: &FrameResult) -> [u8; 19] {
+    let mut bytes = [0; 19];
+    bytes[0] = match result.kind {
+        Kind::Unvoiced => 0,
+        Kind::Voiced => 1,
+        Kind::Repeat => 2,
+    };
+    bytes[1..=11].copy_from_slice(&set_bytes(&result.set));
+    bytes[12..=13].copy_from_slice(&(result.first_level as u16).to_be_bytes());
+    bytes[14..=15].copy_from_slice(&(result.second_level as u16).to_be_bytes());
+    bytes[16] = result.mute;
+    bytes[17] = result.sync;
+    bytes[18] = result.repaired;
+    bytes
+}
+
+/// A vector of receiving one frame.
+fn receive_vector(random: &mut Random) -> Vector {
+    let mut record = random_record(random);
+    if random.once_in(8) {
+        spoil_record(random, &mut record);
+    }
+    let received = random_received(random);
+    let mut vector = [0; 64];
+    vector[0] = 9;
+    vector[1..=14].copy_from_slice(&record_bytes(&record));
+    vector[15] = received.len() as u8;
+    vector[16..16 + received.len()].copy_from_slice(&received);
+    let next = match melp::receive(&record, &received) {
+        Err(refusal) => {
+            vector[25] = refusal.number();
+            record
+        }
+        Ok((result, next)) => {
+            vector[26..=44].copy_from_slice(&result_bytes(&result));
+            next
+        }
+    };
+    vector[45..=58].copy_from_slice(&record_bytes(&next));
+    vector
+}
+
 // ---- Output ----
 
-/// One record of a random kind.
+/// One vector of a random kind, a third of them of kind 9.
 fn random_vector(random: &mut Random) -> Vector {
-    match 1 + random.below(8) {
+    match 1 + random.below(12) {
         1 => pack_vector(random),
         2 => class_vector(random),
         3 => code_vector(random),
@@ -406,11 +588,12 @@ fn random_vector(random: &mut Random) -> Vector {
         5 => parity_vector(random),
         6 => first_level_vector(random),
         7 => second_level_vector(random),
-        _ => choose_vector(random),
+        8 => choose_vector(random),
+        _ => receive_vector(random),
     }
 }
 
-/// Write so many records to standard output.
+/// Write so many vectors to standard output.
 fn write_vectors(count: u64, seed: u64) -> std::io::Result<()> {
     let mut random = Random::new(seed);
     let mut output = std::io::BufWriter::new(std::io::stdout().lock());
@@ -432,6 +615,15 @@ const EXAMPLE_SET: Set = Set {
     g1: 0,
     voicing: None,
 };
+
+/// The frame of example 6 with some places changed.
+fn flipped(places: &[usize]) -> [u8; 7] {
+    let mut frame = EXAMPLE_FRAME;
+    places
+        .iter()
+        .for_each(|place| melp::flip(&mut frame, *place));
+    frame
+}
 
 /// Example 1: pitch codes.
 fn example_1() -> bool {
@@ -492,20 +684,61 @@ fn example_5() -> bool {
     g2(2061) == Ok(0) && g2(2062) == Ok(1)
 }
 
-/// Example 6: a frame packed by a fresh sender.
+/// Example 6: a frame packed by a fresh sender, and its line in section "Program hear".
 fn example_6() -> bool {
+    let received = melp::receive(&melp::fresh_record(), &EXAMPLE_FRAME);
+    let expected = FrameResult {
+        kind: Kind::Unvoiced,
+        set: EXAMPLE_SET,
+        first_level: 4071,
+        second_level: 6282,
+        mute: 0,
+        sync: 0,
+        repaired: 0,
+    };
     melp::pack(&EXAMPLE_SET, 0, 7) == Ok((EXAMPLE_FRAME, 1))
+        && received.map(|(result, _)| result) == Ok(expected)
+}
+
+/// Example 7: two repairs, and two flips in word A.
+fn example_7() -> bool {
+    let receive = |places: &[usize]| melp::receive(&melp::fresh_record(), &flipped(places));
+    let repaired = receive(&[0, 6]).map(|(r, _)| (r.kind, r.set, r.repaired));
+    let erased = receive(&[0, 7]).map(|(r, _)| (r.kind, r.repaired));
+    repaired == Ok((Kind::Unvoiced, EXAMPLE_SET, 2)) && erased == Ok((Kind::Repeat, 0))
+}
+
+/// Mute bits of so many copies of a frame, received from fresh.
+fn mutes(frame: &[u8], count: usize) -> Result<Vec<u8>, Refusal> {
+    let mut record = melp::fresh_record();
+    let mut bits = Vec::new();
+    for _ in 0..count {
+        let (result, next) = melp::receive(&record, frame)?;
+        bits.push(result.mute);
+        record = next;
+    }
+    Ok(bits)
+}
+
+/// Example 9: eight erased frames, erased by the pitch code or by word A.
+fn example_9() -> bool {
+    let by_pitch = flipped(&[melp::place_of(28), melp::place_of(29)]);
+    let by_word = flipped(&[0, 7]);
+    let expected = Ok(vec![0, 0, 0, 0, 0, 0, 0, 1]);
+    mutes(&by_pitch, 8) == expected && mutes(&by_word, 8) == expected
 }
 
 /// Number of the first example that fails, if any does.
 fn first_failure() -> Option<u8> {
-    let examples: [(u8, fn() -> bool); 6] = [
+    let examples: [(u8, fn() -> bool); 8] = [
         (1, example_1),
         (2, example_2),
         (3, example_3),
         (4, example_4),
         (5, example_5),
         (6, example_6),
+        (7, example_7),
+        (9, example_9),
     ];
     examples
         .iter()
@@ -527,7 +760,7 @@ fn selftest() -> ExitCode {
     }
 }
 
-/// Write the records and tell how it went.
+/// Write the vectors and tell how it went.
 fn vectors(count: u64, seed: u64) -> ExitCode {
     match write_vectors(count, seed) {
         Ok(()) => ExitCode::SUCCESS,

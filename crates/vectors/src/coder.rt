@@ -1,8 +1,6 @@
 // Vectors of packing, the pitch code and the words.
-use frame::Indices;
+use crate::vector::set_of;
 use frame::PackAnswer;
-use frame::ParameterSet;
-use frame::Voicing;
 use hamming::Decoded;
 use hamming::WordLength;
 use pitch::ClassAnswer;
@@ -12,30 +10,8 @@ use pitch::PitchClass;
 // What the output holds before a call.
 const FILL: u8 = 165;
 
-// The set in bytes 1 to 11.
-fn set_of(r: [u8; 32]) -> ParameterSet {
-    let x = Indices {
-        l1: r[3],
-        l2: r[4],
-        l3: r[5],
-        l4: r[6],
-        g2: r[7],
-        g1: r[8],
-    };
-    if r[1] == 0 {
-        return ParameterSet::Unvoiced(x);
-    }
-    let v = Voicing {
-        pitch: r[2],
-        bandpass: r[9],
-        fourier: r[10],
-        aperiodic: r[11],
-    };
-    ParameterSet::Voiced(x, v)
-}
-
 // Whether the answer is the one of bytes 14 and 15.
-fn answer_agrees(r: [u8; 32], answer: PackAnswer) -> bool {
+fn answer_agrees(r: [u8; 64], answer: PackAnswer) -> bool {
     match answer {
         PackAnswer::Packed(next) => (r[14] == 0) & ((r[15] == 1) == next),
         PackAnswer::Refused(n) => (n != 0) & (r[14] == n),
@@ -43,7 +19,7 @@ fn answer_agrees(r: [u8; 32], answer: PackAnswer) -> bool {
 }
 
 // Whether the output is the frame of bytes 16 to 22 with the rest as it was, or all as it was.
-fn output_agrees(r: [u8; 32], out: [u8; 16]) -> bool {
+fn output_agrees(r: [u8; 64], out: [u8; 16]) -> bool {
     let mut same = true;
     for i in 0..16 {
         let expected = if (r[14] == 0) & (i < 7) {
@@ -56,7 +32,7 @@ fn output_agrees(r: [u8; 32], out: [u8; 16]) -> bool {
     same
 }
 
-pub(crate) fn pack_agrees(r: [u8; 32]) -> bool {
+pub(crate) fn pack_agrees(r: [u8; 64]) -> bool {
     let room = r[13] as usize;
     if 16 < room {
         return false;
@@ -66,7 +42,7 @@ pub(crate) fn pack_agrees(r: [u8; 32]) -> bool {
     answer_agrees(r, answer) & output_agrees(r, out)
 }
 
-pub(crate) fn class_agrees(r: [u8; 32]) -> bool {
+pub(crate) fn class_agrees(r: [u8; 64]) -> bool {
     match pitch::classify(r[1]) {
         ClassAnswer::Refused(n) => (n != 0) & (r[2] == n),
         ClassAnswer::Class(class) => match class {
@@ -77,7 +53,7 @@ pub(crate) fn class_agrees(r: [u8; 32]) -> bool {
     }
 }
 
-pub(crate) fn code_agrees(r: [u8; 32]) -> bool {
+pub(crate) fn code_agrees(r: [u8; 64]) -> bool {
     match pitch::encode(r[1]) {
         CodeAnswer::Refused(n) => (n != 0) & (r[2] == n),
         CodeAnswer::Code(code) => (r[2] == 0) & (r[3] == code),
@@ -85,7 +61,7 @@ pub(crate) fn code_agrees(r: [u8; 32]) -> bool {
 }
 
 // The length in byte 1; anything else than 6 or 7 is 8.
-fn length_of(r: [u8; 32]) -> WordLength {
+fn length_of(r: [u8; 64]) -> WordLength {
     if r[1] == 6 {
         return WordLength::Six;
     }
@@ -95,13 +71,13 @@ fn length_of(r: [u8; 32]) -> WordLength {
     WordLength::Eight
 }
 
-pub(crate) fn word_agrees(r: [u8; 32]) -> bool {
+pub(crate) fn word_agrees(r: [u8; 64]) -> bool {
     match hamming::decode(length_of(r), r[2]) {
         Decoded::Erased => r[3] == 1,
         Decoded::Read(data, repaired) => (r[3] == 0) & (r[4] == data) & (r[5] == repaired),
     }
 }
 
-pub(crate) fn parity_agrees(r: [u8; 32]) -> bool {
+pub(crate) fn parity_agrees(r: [u8; 64]) -> bool {
     hamming::parity_of(length_of(r), r[2]) == r[3]
 }

@@ -1,5 +1,5 @@
 // Vectors of gain levels and gain codes.
-use crate::record::wide;
+use crate::vector::wide;
 use gain::CodesAnswer;
 use gain::LevelAnswer;
 
@@ -11,11 +11,11 @@ fn level_agrees(answer: LevelAnswer, refusal: u8, level: u32) -> bool {
     }
 }
 
-pub(crate) fn first_agrees(r: [u8; 32]) -> bool {
+pub(crate) fn first_agrees(r: [u8; 64]) -> bool {
     level_agrees(gain::first_level(r[1], r[2], r[3]), r[4], wide(r[5], r[6]))
 }
 
-pub(crate) fn second_agrees(r: [u8; 32]) -> bool {
+pub(crate) fn second_agrees(r: [u8; 64]) -> bool {
     level_agrees(gain::level(r[1]), r[2], wide(r[3], r[4]))
 }
 
@@ -28,7 +28,7 @@ fn signed(a: u8, b: u8, c: u8, d: u8) -> i32 {
     -1 - (4294967295 - x) as i32
 }
 
-pub(crate) fn choice_agrees(r: [u8; 32]) -> bool {
+pub(crate) fn choice_agrees(r: [u8; 64]) -> bool {
     let first = signed(r[1], r[2], r[3], r[4]);
     let second = signed(r[5], r[6], r[7], r[8]);
     match gain::choose(first, second, r[9]) {

@@ -1,11 +1,12 @@
 // Runs the vectors of an independent implementation, from standard input, through the libraries. A vector
-// is 32 bytes: its kind, the arguments of a call, and what the call must answer.
+// is 64 bytes: its kind, the arguments of a call, and what the call must answer.
 mod coder;
 mod levels;
-mod record;
+mod taking;
+mod vector;
 
 // Whether the libraries answer as the vector says.
-fn agrees(r: [u8; 32]) -> bool {
+fn agrees(r: [u8; 64]) -> bool {
     let kind = r[0];
     match kind {
         1 => coder::pack_agrees(r),
@@ -16,6 +17,7 @@ fn agrees(r: [u8; 32]) -> bool {
         6 => levels::first_agrees(r),
         7 => levels::second_agrees(r),
         8 => levels::choice_agrees(r),
+        9 => taking::receive_agrees(r),
         _ => false,
     }
 }
@@ -23,8 +25,8 @@ fn agrees(r: [u8; 32]) -> bool {
 // How many of the vectors in a slice do not agree.
 fn differences(s: &[u8]) -> usize {
     let mut wrong = 0;
-    for i in 0..s.len() / 32 {
-        if !agrees(record::at(s, i)) {
+    for i in 0..s.len() / 64 {
+        if !agrees(vector::at(s, i)) {
             wrong += 1;
         }
     }
@@ -36,10 +38,10 @@ fn main() {
     let got = io::read_full(0, &mut buffer);
     let vectors = &buffer[..got];
     io::write_all(1, b"vectors=");
-    io::print_decimal(1, (vectors.len() / 32) as u64);
+    io::print_decimal(1, (vectors.len() / 64) as u64);
     io::write_all(1, b" differences=");
     io::print_decimal(1, differences(vectors) as u64);
     io::write_all(1, b" left=");
-    io::print_decimal(1, (vectors.len() % 32) as u64);
+    io::print_decimal(1, (vectors.len() % 64) as u64);
     io::write_all(1, b"\n");
 }

@@ -9,7 +9,7 @@ use Rattle.vectors.proofs.differences.Statement.{statement}
 use Rattle.vectors.proofs.differences.Tie as tie
 
 abbrev Inv-loop : tie.InvT-loop
-Inv-loop s wrong₀ i₀ i-end wrong i = (i ≤ i-end) × (i-end ≡ length s / 32) × (wrong ≤ i)
+Inv-loop s wrong₀ i₀ i-end wrong i = (i ≤ i-end) × (i-end ≡ length s / 64) × (wrong ≤ i)
 
 abbrev μ-loop : tie.MeasureT-loop
 μ-loop s wrong₀ i₀ i-end wrong i = i-end - i

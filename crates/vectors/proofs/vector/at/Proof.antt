@@ -1,16 +1,16 @@
--- `vectors::record::at` is safe and ends: k is at most 32. Assumes nothing.
+-- `vectors::vector::at` is safe and ends: k is at most 64. Assumes nothing.
 use mathlib.Core.Path.{_≡_}
 use Prim.Native.Nat.{_≤_, _-_}
 use lib.ListN.{length}
 use borrow.Author.Needs.{needs}
-use Rattle.vectors.proofs.record.at.Statement.{statement}
-use Rattle.vectors.proofs.record.at.Tie as tie
+use Rattle.vectors.proofs.vector.at.Statement.{statement}
+use Rattle.vectors.proofs.vector.at.Tie as tie
 
 abbrev Inv-loop : tie.InvT-loop
-Inv-loop s i r₀ k₀ r k = (k ≤ 32) × (length r ≡ 32)
+Inv-loop s i r₀ k₀ r k = (k ≤ 64) × (length r ≡ 64)
 
 abbrev μ-loop : tie.MeasureT-loop
-μ-loop s i r₀ k₀ r k = 32 - k
+μ-loop s i r₀ k₀ r k = 64 - k
 
 loop-holds : tie.Need-loop-holds Inv-loop μ-loop
 loop-holds c = search needs

@@ -1,0 +1,52 @@
+-- `vectors::taking::kinds_of` is safe and ends: i is at most 16. Assumes nothing.
+use mathlib.Core.Path.{_≡_}
+use Prim.Native.Nat.{_≤_, _-_}
+use lib.ListN.{length}
+use borrow.Author.Needs.{needs}
+use Rattle.vectors.proofs.taking.kinds_of.Statement.{statement}
+use Rattle.vectors.proofs.taking.kinds_of.Tie as tie
+
+abbrev Inv-loop : tie.InvT-loop
+Inv-loop bits kinds₀ left₀ i₀ kinds left i = (i ≤ 16) × (length kinds ≡ 16)
+
+abbrev μ-loop : tie.MeasureT-loop
+μ-loop bits kinds₀ left₀ i₀ kinds left i = 16 - i
+
+loop-holds : tie.Need-loop-holds Inv-loop μ-loop
+loop-holds c = search needs
+
+past-of-requires : tie.Need-past-of-requires Inv-loop μ-loop
+past-of-requires c κs = search needs
+
+sub-kinds : tie.Need-sub-kinds Inv-loop μ-loop
+sub-kinds c = search needs
+
+array-set-from-kinds : tie.Need-array-set-from-kinds Inv-loop μ-loop
+array-set-from-kinds c = search needs
+
+add-i : tie.Need-add-i Inv-loop μ-loop
+add-i c = search needs
+
+loop-less : tie.Need-loop-less Inv-loop μ-loop
+loop-less c = search needs
+
+loop-again : tie.Need-loop-again Inv-loop μ-loop
+loop-again c = search needs
+
+returns : tie.Need-returns Inv-loop μ-loop
+returns c = search needs
+
+pub kinds-of-spec : {M : Type 1} → statement M
+kinds-of-spec =
+    tie.close
+    (tie.spec
+    Inv-loop
+    μ-loop
+    loop-holds
+    past-of-requires
+    sub-kinds
+    array-set-from-kinds
+    add-i
+    loop-less
+    loop-again
+    returns)
