@@ -1,0 +1,43 @@
+-- The size of a signed number of 64 bits, by what lies between it and -1: -1 - x is not negative and fits, even for the least number.
+-- Assumes nothing.
+use mathlib.Core.Path.{_≡_, refl, ap}
+use mathlib.Core.Bool.{Bool, true, false, cond, true≢false}
+use Prim.Native.Nat.{ℕ, suc, _+_, _-_, _<_, _^_}
+use native.Mathlib.Omega.{arith}
+use lib.Dec.{ltb, T}
+use lib.IntN.{ℤ, pos, negsuc, natAbs, _-ℤ_}
+use lib.Signed.{ltZ, nonNeg}
+use mir.Syntax.{w64}
+use mir.Val.{SFits}
+use borrow.Author.Tests.{ltb-true}
+
+-- -1 less the number n + 1 below 0 is n
+less-is : (n : ℕ) → negsuc 0 -ℤ negsuc n ≡ pos n
+less-is n = go (ltb (suc n) 1) refl
+  where
+    go : (t : Bool) → ltb (suc n) 1 ≡ t → cond t (negsuc (1 - suc (suc n))) (pos (suc n - 1)) ≡ pos n
+    go true e = absurd (omega (arith, ltb-true (suc n) 1 e))
+    go false e = ap pos (omega arith)
+
+-- what is known of -1 - x
+pub record Complement (x : ℤ) : Type 0 where
+  pub fits : SFits w64 (negsuc 0 -ℤ x)
+  pub above : T (nonNeg (negsuc 0 -ℤ x))
+  pub small : natAbs (negsuc 0 -ℤ x) < 2 ^ 63
+  pub size : natAbs (negsuc 0 -ℤ x) + 1 ≡ natAbs x
+
+pub complement : (x : ℤ) → SFits w64 x → ltZ x (pos 0) ≡ true → Complement x
+complement (pos n) f e = absurd (omega (arith, ltb-true n 0 e))
+complement (negsuc n) f e =
+    let h : n < 2 ^ 63 = f .sfits in
+    record {
+      fits = rw (less-is n) (record { sfits = h });
+      above = rw (less-is n) tt;
+      small = rw (less-is n) h;
+      size = rw (less-is n) (omega arith);
+    }
+
+-- what is known of a number that is not negative
+pub not-negative : (x : ℤ) → SFits w64 x → ltZ x (pos 0) ≡ false → T (nonNeg x) × (natAbs x < 2 ^ 63)
+not-negative (pos n) f e = (tt, f .sfits)
+not-negative (negsuc n) f e = absurd (true≢false e)

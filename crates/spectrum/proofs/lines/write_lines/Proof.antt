@@ -1,0 +1,82 @@
+-- `spectrum::lines::write_lines` meets its contract: after i turns the lines of the first i numbers stand there. Assumes nothing.
+use mathlib.Core.Path.{_≡_, refl}
+use mathlib.Core.List.{_++_}
+use Prim.Native.Nat.{_+_, _-_, _*_, _≤_, _<_}
+use native.Mathlib.Numerals.{add-one}
+use native.Mathlib.Omega.{arith}
+use lib.ListN.{length, getD, take}
+use lib.Seq.{take-all}
+use lib.IntN.{pos}
+use Rattle.codebook.proofs.Sizes.{back}
+use Rattle.spectrum.specs.Lines.{line, lines, Appended}
+use Rattle.spectrum.proofs.Appending.{appended-none, appended-more, lines-more}
+use borrow.Author.Needs.{needs}
+use Rattle.spectrum.proofs.lines.write_lines.Statement.{statement}
+use Rattle.spectrum.proofs.lines.write_lines.Tie as tie
+
+abbrev Inv-loop : tie.InvT-loop
+Inv-loop out₀ at numbers end₀ i₀ out end i =
+    (i ≤ 10) × (length numbers ≡ 10) × (length out ≡ length out₀) × (end ≤ at + 22 * i) × Appended out₀ at (lines (take i numbers)) out end
+
+abbrev μ-loop : tie.MeasureT-loop
+μ-loop out₀ at numbers end₀ i₀ out end i = 10 - i
+
+loop-holds : tie.Need-loop-holds Inv-loop μ-loop
+unfolding lines
+loop-holds c = (omega arith, search needs, refl, omega arith, appended-none (c .before .args .out .now) (c .before .args .at))
+
+mul-write-line : tie.Need-mul-write-line Inv-loop μ-loop
+mul-write-line c = search needs
+
+array-copy-out-write-line : tie.Need-array-copy-out-write-line Inv-loop μ-loop
+array-copy-out-write-line c = search needs
+
+write-line-requires : tie.Need-write-line-requires Inv-loop μ-loop
+write-line-requires c κs = search needs
+
+add-i : tie.Need-add-i Inv-loop μ-loop
+add-i c = search needs
+
+loop-less : tie.Need-loop-less Inv-loop μ-loop
+loop-less c = search needs
+
+loop-again : tie.Need-loop-again Inv-loop μ-loop
+loop-again c =
+    let w = c .before .before in
+    let l = w .before .before .before .before in
+    let L = l .loop in
+    let s = l .before .before .args in
+    let x = getD (s .t1) (L .i) (pos 0) in
+    let h : L .i < length (s .t1) = omega arith in
+    let e : Appended (L .out) (L .end) (line x) (w .write-line .last .1 .0) (w .write-line .result) =
+    rw (back x (w .before .before .write-line-arg .given)) at (w .write-line .ensures .0) in
+    let m : lines (take (L .i + 1) (s .t1)) ≡ lines (take (L .i) (s .t1)) ++ line x = rw add-one (lines-more (s .t1) (L .i) (pos 0) h) in
+    let b = w .write-line .ensures .1 in
+    (omega arith, L .inv .1, search needs, omega (arith, b), rw m (appended-more _ _ _ _ _ _ _ _ (L .inv .4) e))
+
+same-length : tie.Need-same-length Inv-loop μ-loop
+same-length c = search needs
+
+returns : tie.Need-returns Inv-loop μ-loop
+returns c =
+    let L = c .before .loop in
+    let k = c .before .before .before .args .t1 in
+    let e : L .i ≡ 10 = omega arith in
+    let t : take (L .i) k ≡ k = rw e (take-all 10 k (omega arith)) in
+    (rw t at (L .inv .4), omega arith)
+
+pub write-lines-spec : {M : Type 1} → statement M
+write-lines-spec =
+    tie.close
+    (tie.spec
+    Inv-loop
+    μ-loop
+    loop-holds
+    mul-write-line
+    array-copy-out-write-line
+    write-line-requires
+    add-i
+    loop-less
+    loop-again
+    same-length
+    returns)

@@ -1,0 +1,65 @@
+-- `spectrum::values::of_frame` meets its contract, by what the receiver answers. Assumes nothing.
+use mathlib.Core.Path.{_≡_, sym, ap, _∙_}
+use borrow.Author.Needs.{needs}
+use Rattle.order.specs.Order.{defaultOrder}
+use Rattle.receiver.specs.Records.{fresh}
+use Rattle.receiver.specs.Receiving.{receive}
+use Rattle.receiver.specs.declared.Record.{Record}
+use Rattle.receiver.specs.declared.ReceiveAnswer.{ReceiveAnswer}
+use Rattle.receiver.specs.declared.Received.{Received}
+use Rattle.spectrum.specs.Values.{ofAnswer, ofFrame}
+use Rattle.spectrum.proofs.values.of_frame.Statement.{statement}
+use Rattle.spectrum.proofs.values.of_frame.Tie as tie
+
+fresh-requires : tie.Need-fresh-requires
+fresh-requires c κs = search needs
+
+receive-requires : tie.Need-receive-requires
+receive-requires c κs = search needs
+
+enum-known-answer : tie.Need-enum-known-answer
+enum-known-answer c = search needs
+
+refused-requires : tie.Need-refused-requires
+refused-requires c κs = search needs
+
+enum-known-answer-2 : tie.Need-enum-known-answer-2
+enum-known-answer-2 c = search needs
+
+of-texts-requires : tie.Need-of-texts-requires
+of-texts-requires c κs = search needs
+
+-- what the receiver answers is what the definition has
+answered : (c : tie.After-receive) → c .receive .result .answer ≡ receive defaultOrder fresh (c .before .before .before .before .before .args .bytes .now) .answer
+answered c =
+    let a = c .before .before .before .before .before .args in
+    ap (λ (r : Received). r .answer) (c .receive .ensures ∙ ap (λ (r : Record). receive defaultOrder r (a .bytes .now)) (c .before .fresh .ensures))
+
+returns : tie.Need-returns
+unfolding ofFrame
+returns c =
+    let known = c .before .before in
+    let got = known .before .before in
+    let a = got .before .before .before .before .before .args in
+    c .refused .ensures ∙ ap (λ (r : ReceiveAnswer). ofAnswer r (a .lsf .now) (a .magnitudes .now)) (sym (known .answer .given .1) ∙ answered got)
+
+returns-2 : tie.Need-returns-2
+unfolding ofFrame
+returns-2 c =
+    let known = c .before .before in
+    let got = known .before .before in
+    let a = got .before .before .before .before .before .args in
+    c .of-texts .ensures ∙ ap (λ (r : ReceiveAnswer). ofAnswer r (a .lsf .now) (a .magnitudes .now)) (sym (known .answer2 .given .1) ∙ answered got)
+
+pub of-frame-spec : {M : Type 1} → statement M
+of-frame-spec =
+    tie.close
+    (tie.spec
+    fresh-requires
+    receive-requires
+    enum-known-answer
+    refused-requires
+    enum-known-answer-2
+    of-texts-requires
+    returns
+    returns-2)
