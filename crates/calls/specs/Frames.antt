@@ -63,6 +63,6 @@ setOf w = w .packing .arguments .set
 abbrev pub RowClaim : List ℕ → ℕ → Row → Type 0
 RowClaim ord width w = FrameClaim ord (setOf w) (w .flips) (w .result) width
 
--- what is claimed of frame w packed just after frame v: where both are light, its gain levels are those of the clean receiver
+-- what is claimed of frame w packed just after frame v: where both are correctable, its gain levels are those of the clean receiver
 abbrev pub PairClaim : List ℕ → Row → Row → Type 0
 PairClaim ord v w = CorrectableFrame ord (setOf v) (v .flips) → CorrectableFrame ord (setOf w) (w .flips) → SameLevels (w .result) (w .clean)

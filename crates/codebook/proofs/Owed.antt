@@ -1,7 +1,7 @@
 -- What a call for values owes: refused before any row is looked at, or by the entries of the rows in use.
 -- Assumes nothing.
 use mathlib.Core.Path.{_≡_, refl, sym, ap, _∙_}
-use mathlib.Core.Bool.{Bool, true, false, cond, and-eq-true-iff}
+use mathlib.Core.Bool.{Bool, true, false, cond}
 use mathlib.Core.List.{List, _++_}
 use Prim.Native.Nat.{ℕ, zero, suc, _≤_}
 use native.Mathlib.Omega.{arith}
@@ -9,19 +9,12 @@ use lib.Dec.{ltb, eqb}
 use lib.ListN.{length, drop}
 use lib.IntN.{ℤ}
 use borrow.Author.Tests.{ltb-false, eqb-true}
-use Rattle.frame.specs.Sets.{indicesIn, indicesFit, voicingFits, inRange}
+use Rattle.frame.specs.Sets.{inRange}
 use Rattle.frame.specs.declared.ParameterSet.{ParameterSet}
-use Rattle.frame.specs.declared.ParameterSet.the-variants.{Unvoiced, Voiced}
-use Rattle.frame.proofs.Ranges.{IndexRanges, index-ranges}
 use Rattle.codebook.specs.Rows.{refusal}
 use Rattle.codebook.specs.Values.{valuesRefusal, answerUnless, writtenUnless}
 use Rattle.codebook.specs.declared.ValuesAnswer.{ValuesAnswer}
 use Rattle.codebook.specs.declared.ValuesAnswer.the-variants.{Written, Refused}
-
--- the indices of a set in range
-pub set-ranges : (set : ParameterSet) → inRange set ≡ true → IndexRanges (indicesIn set)
-set-ranges (Unvoiced x) e = index-ranges x (rw e tt)
-set-ranges (Voiced x v) e = index-ranges x (rw (and-eq-true-iff (indicesFit x) (voicingFits v) .0 e .0) tt)
 
 -- a refusal before any row is looked at stands whatever the rows hold
 early : (short range whole fit : Bool) → (cond short 1 (refusal range whole true) ≡ 0 → ⊥)

@@ -1,6 +1,6 @@
 -- Digits one by one: what a reader has seen so far and what is still to come. Assumes nothing.
 use mathlib.Core.Path.{_≡_, refl}
-use mathlib.Core.Bool.{Bool, true, false, not, _&&_}
+use mathlib.Core.Bool.{Bool, true, false, not, _&&_, and-eq-true-iff}
 use mathlib.Core.List.{List, [], _∷_}
 use Prim.Native.Nat.{ℕ, zero, suc, _+_, _-_, _*_, _^_, _≤_, _<_}
 use native.Mathlib.Nat.{not-suc-le-zero, le-of-suc-le-suc, pow-suc, pow-le-pow-right}
@@ -14,8 +14,7 @@ use Rattle.codebook_text.specs.Text.{isNegative, unsigned, isDigit, allD
 
 -- both of two tests
 pub both : (a b : Bool) → a && b ≡ true → (a ≡ true) × (b ≡ true)
-both true b e = (refl, e)
-both false b e = let z : _≡_ {A = ℕ} 0 1 = cc in absurd (omega arith)
+both a b = and-eq-true-iff a b .0
 
 -- a line with a minus is not empty
 pub negative-some : (line : List ℕ) → isNegative line ≡ true → 1 ≤ length line

@@ -21,7 +21,7 @@ use Rattle.frame.specs.Reads.{pitchBits, indicesOf, voicingOf, fromWords
 use Rattle.frame.specs.declared.Reading.{Reading}
 use Rattle.frame.specs.declared.Reading.the-variants.{Accepted, Erased}
 use Rattle.frame.proofs.Ranges.{index-fits, voicing-fits}
-use Rattle.frame.proofs.Cuts.{word-bounds}
+use Rattle.frame.proofs.Joined.{words-bounds}
 
 -- a reading has no set, or one in range
 abbrev pub readingFits : Reading → Bool
@@ -59,8 +59,8 @@ module _ (g : ℕ → Bool) where
   words-fit (word.Read a i) (word.Read b j) word.Erased d ea eb ec ed = tt
   words-fit (word.Read a i) (word.Read b j) (word.Read c k) word.Erased ea eb ec ed = tt
   words-fit (word.Read a i) (word.Read b j) (word.Read c k) (word.Read d l) ea eb ec ed =
-      indices-fit a b c d (word-bounds 8 (cut g 0 8) refl _ a i ea refl .0) (word-bounds 6 (cut g 8 6) refl _ b j eb refl .0)
-      (word-bounds 7 (cut g 14 7) refl _ c k ec refl .0) (word-bounds 7 (cut g 21 7) refl _ d l ed refl .0)
+      let fit = words-bounds g (word.Read a i) (word.Read b j) (word.Read c k) (word.Read d l) a i b j c k d l refl refl refl refl (ea, eb) (ec, ed) .0 in
+      indices-fit a b c d (fit .0) (fit .1) (fit .2) (fit .3)
 
   -- a frame of each class
   class-fits : (c : PitchClass) → T (indexFits c) → T (readingFits (byClass g c))

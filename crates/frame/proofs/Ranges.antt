@@ -6,7 +6,7 @@ use Prim.Native.Nat.{_<_}
 use lib.Dec.{T, ltb, eqb, ltb→lt}
 use borrow.Author.Tests.{lt-ltb}
 use Rattle.bits.proofs.Every.{and-left, chain-at}
-use Rattle.frame.specs.Sets.{indicesFit, voicingFits, inRange, sendable}
+use Rattle.frame.specs.Sets.{indicesIn, indicesFit, voicingFits, inRange, sendable}
 use Rattle.frame.specs.declared.Indices.{Indices}
 use Rattle.frame.specs.declared.Voicing.{Voicing}
 use Rattle.frame.specs.declared.ParameterSet.{ParameterSet}
@@ -78,3 +78,8 @@ voicing-fits v r =
 pub sendable-fits : (set : ParameterSet) → T (sendable set) → T (inRange set)
 sendable-fits (Unvoiced x) t = t
 sendable-fits (Voiced x v) t = and-left (indicesFit x && voicingFits v) (not (eqb (v .bandpass) 1)) t
+
+-- the six indices of a set in range are in theirs
+pub set-ranges : (set : ParameterSet) → T (inRange set) → IndexRanges (indicesIn set)
+set-ranges (Unvoiced x) t = index-ranges x t
+set-ranges (Voiced x v) t = index-ranges x (and-left (indicesFit x) (voicingFits v) t)

@@ -4,22 +4,22 @@ use mathlib.Core.Path.{_≡_, refl, sym, ap, _∙_, subst}
 use mathlib.Core.Bool.{Bool, true, false, cond}
 use mathlib.Core.List.{List, [], _∷_}
 use Prim.Native.Nat.{ℕ, _+_, _*_, _%_, _^_, _≤_, _<_}
-use native.Mathlib.Nat.{zero-add, lt-of-lt-of-le}
+use native.Mathlib.Nat.{lt-of-lt-of-le}
 use native.Mathlib.Omega.{arith}
 use lib.Dec.{eqb}
 use lib.ListN.{length, getD}
 use lib.Pow.{pow-mono}
 use borrow.Author.Tests.{eq-eqb, ne-eqb}
-use Rattle.bits.specs.Bits.{ones, value, bits, cut}
-use Rattle.bits.proofs.Cut.{length-cut, cut-at, cut-ext, cut-append}
+use Rattle.bits.specs.Bits.{ones, value, cut}
+use Rattle.bits.proofs.Cut.{length-cut, cut-ext, cut-append}
 use Rattle.bits.proofs.Value.{value-lt-at, value-join}
-use Rattle.bits.proofs.Digits.{bits-value}
 use Rattle.order.specs.Order.{defaultOrder, placeOf, bitAt, logicalBit, padding, frameRefusal}
 use Rattle.order.specs.Word.{wordBit}
 use Rattle.order.specs.Taking.{bitsUnless, bitsAnswer}
 use Rattle.order.specs.declared.BitsAnswer.the-variants.{Bits, Refused}
 use Rattle.order.proofs.Bytes.{byte-back, padding-is}
 use Rattle.order.proofs.Places.{place-lt}
+use Rattle.order.proofs.Words.{word-back}
 use Rattle.order.proofs.Default.{default-order}
 
 -- two bits have no ones where they stand for 0
@@ -48,20 +48,12 @@ module _ (bytes : List ℕ) where
       subst (λ (y : ℕ). y < 2 ^ 48) (sym e)
       (lt-of-lt-of-le (value-lt-at (8 * i) (cut (bitAt bytes) 0 (8 * i)) (length-cut (bitAt bytes) 0 (8 * i))) (pow-mono m))
 
-  -- a place of the number is that place of the bytes
-  place-is : (w t : ℕ) → w ≡ value (cut (bitAt bytes) 0 56) → t < 56 → wordBit 56 w t ≡ bitAt bytes t
-  place-is w t e h =
-      ap (λ (y : ℕ). getD (bits 56 y) t false) e
-      ∙ ap (λ (l : List Bool). getD l t false) (bits-value 56 (cut (bitAt bytes) 0 56) (length-cut (bitAt bytes) 0 56))
-      ∙ cut-at false (bitAt bytes) 0 56 t h
-      ∙ ap (bitAt bytes) (zero-add t)
-
-  -- so the logical bits of the number are those of the bytes
+  -- the logical bits of the number that the places make are those of the bytes
   pub logical-is : (w : ℕ) → w ≡ value (cut (bitAt bytes) 0 56)
       → cut (λ j. wordBit 56 w (placeOf defaultOrder j)) 0 54 ≡ cut (logicalBit defaultOrder bytes) 0 54
   logical-is w e =
       cut-ext (λ j. wordBit 56 w (placeOf defaultOrder j)) (logicalBit defaultOrder bytes) 0 54
-      (λ j a b. place-is w (placeOf defaultOrder j) e (omega (arith, place-lt defaultOrder default-order j (omega arith))))
+      (λ j a b. word-back 56 (bitAt bytes) w (placeOf defaultOrder j) e (omega (arith, place-lt defaultOrder default-order j (omega arith))))
 
   -- the padding is clear where the last byte is a multiple of 4
   padding-test : eqb (ones (padding bytes)) 0 ≡ eqb (getD bytes 6 0 % 4) 0

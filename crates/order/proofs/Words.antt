@@ -41,6 +41,14 @@ gather-more h t x b e f =
 pub gather-lt : (h : ℕ → Bool) (t x : ℕ) → t ≤ 54 → x ≡ value (cut h 0 t) → x < 2 ^ 54
 gather-lt h t x l e = subst (λ (y : ℕ). y < 2 ^ 54) (sym e) (lt-of-lt-of-le (value-lt-at t (cut h 0 t) (length-cut h 0 t)) (pow-mono l))
 
+-- a number made of n bits has those bits
+pub word-back : (n : ℕ) (g : ℕ → Bool) (w j : ℕ) → w ≡ value (cut g 0 n) → j < n → wordBit n w j ≡ g j
+word-back n g w j e h =
+    ap (λ (x : ℕ). wordBit n x j) e
+    ∙ ap (λ (l : List Bool). getD l j false) (bits-value n (cut g 0 n) (length-cut g 0 n))
+    ∙ cut-at false g 0 n j h
+    ∙ ap g (zero-add j)
+
 -- the 54 places, and two zeros after them, are the seven bytes
 module _ (ord : List ℕ) (g : ℕ → Bool) where
   padded : (x : ℕ) → x ≡ value (cut (placed ord g) 0 54) → x * 4 ≡ value (cut (placed ord g) 0 56)
@@ -51,8 +59,4 @@ module _ (ord : List ℕ) (g : ℕ → Bool) where
       omega arith
 
   pub gathered : (x : ℕ) → x ≡ value (cut (placed ord g) 0 54) → bytesOf (wordBit 56 (x * 4)) ≡ bytesOf (placed ord g)
-  gathered x e = bytes-ext (wordBit 56 (x * 4)) (placed ord g) (λ t h.
-      ap (λ (y : ℕ). getD (bits 56 y) t false) (padded x e)
-      ∙ ap (λ (l : List Bool). getD l t false) (bits-value 56 (cut (placed ord g) 0 56) (length-cut (placed ord g) 0 56))
-      ∙ cut-at false (placed ord g) 0 56 t h
-      ∙ ap (placed ord g) (zero-add t))
+  gathered x e = bytes-ext (wordBit 56 (x * 4)) (placed ord g) (λ t h. word-back 56 (placed ord g) (x * 4) t (padded x e) h)

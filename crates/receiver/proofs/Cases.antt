@@ -4,16 +4,14 @@ use mathlib.Core.Path.{_≡_, sym, ap, ap₂, _∙_}
 use mathlib.Core.Bool.{Bool, true, false, cond}
 use mathlib.Core.List.{List}
 use Prim.Native.Nat.{ℕ, zero, suc, _/_, _%_, _<_}
-use native.Mathlib.Nat.{zero-add}
 use native.Mathlib.Omega.{arith}
 use lib.Dec.{eqb, lit<}
-use lib.ListN.{getD}
 use Rattle.bits.specs.Bits.{value, cut}
-use Rattle.bits.proofs.Cut.{length-cut, cut-at}
-use Rattle.bits.proofs.Digits.{bits-value, bits-at}
+use Rattle.bits.proofs.Digits.{bits-at}
 use Rattle.order.specs.Order.{defaultOrder, logicalBit, frameRefusal}
 use Rattle.order.specs.Word.{wordBit}
 use Rattle.order.specs.Taking.{bitsUnless, bitsAnswer}
+use Rattle.order.proofs.Words.{word-back}
 use Rattle.order.specs.declared.BitsAnswer.the-variants as taking
 use Rattle.frame.specs.Reads.{read}
 use Rattle.frame.specs.declared.Reading.{Reading}
@@ -24,15 +22,7 @@ use Rattle.receiver.specs.Receiving.{receiveRefusal, receiveUnless, firs
 use Rattle.receiver.specs.declared.Record.{Record}
 use Rattle.receiver.specs.declared.ReceiveAnswer.the-variants.{Refused}
 
--- the bits of a number are those it was made of
-word-bits : (g : ℕ → Bool) (word j : ℕ) → word ≡ value (cut g 0 54) → j < 54 → wordBit 54 word j ≡ g j
-word-bits g word j e h =
-    ap (λ (w : ℕ). wordBit 54 w j) e
-    ∙ ap (λ (l : List Bool). getD l j false) (bits-value 54 (cut g 0 54) (length-cut g 0 54))
-    ∙ cut-at false g 0 54 j h
-    ∙ ap g (zero-add j)
-
--- the last of them is its remainder
+-- the last bit of a number is its remainder
 last-bit : (word : ℕ) → eqb (word % 2) 1 ≡ wordBit 54 word 53
 last-bit word =
     let e : word / 1 % 2 ≡ word % 2 = omega arith in
@@ -73,6 +63,6 @@ module _ (r : Record) (bytes : List ℕ) where
     unfolding receive
     step-owes v =
         let g : ℕ → Bool = logicalBit defaultOrder bytes in
-        let same : (j : ℕ) → j < 54 → wordBit 54 word j ≡ g j = λ j h. word-bits g word j (taken word e .1) h in
+        let same : (j : ℕ) → j < 54 → wordBit 54 word j ≡ g j = λ j h. word-back 54 g word j (taken word e .1) h in
         ap₂ (λ (s : Bool) (x : Reading). step r s x) (last-bit word ∙ same 53 (lit< tt)) (read-ext (wordBit 54 word) g (λ j h. same j (omega arith)))
         ∙ sym (ap (λ (n : ℕ). receiveUnless n defaultOrder r bytes) (refusal-is true v))

@@ -2,17 +2,16 @@
 -- Assumes nothing.
 use mathlib.Core.Bool.{Bool}
 use mathlib.Core.List.{List}
-use Prim.Native.Nat.{ℕ, zero, suc, _<_}
+use Prim.Native.Nat.{ℕ, zero, suc}
 use lib.Dec.{T, ltb, lt→ltb}
-use Rattle.bits.proofs.Every.{and-left, and-both}
+use Rattle.bits.proofs.Every.{and-both}
 use Rattle.order.specs.Order.{logicalBit}
-use Rattle.frame.specs.Sets.{indicesIn, indicesFit, voicingFits, inRange}
+use Rattle.frame.specs.Sets.{indicesIn, inRange}
 use Rattle.frame.specs.Reads.{read}
 use Rattle.frame.specs.declared.ParameterSet.{ParameterSet}
-use Rattle.frame.specs.declared.ParameterSet.the-variants.{Unvoiced, Voiced}
 use Rattle.frame.specs.declared.Reading.{Reading}
 use Rattle.frame.specs.declared.Reading.the-variants.{Accepted, Erased}
-use Rattle.frame.proofs.Ranges.{index-ranges}
+use Rattle.frame.proofs.Ranges.{set-ranges}
 use Rattle.frame.proofs.Fits.{readingFits, read-fits}
 use Rattle.receiver.specs.Records.{fresh, valid}
 use Rattle.receiver.specs.Steps.{accepted, repeated, step}
@@ -24,15 +23,10 @@ pub fresh-valid : T (valid fresh)
 unfolding fresh
 fresh-valid = tt
 
--- the G2 of a set in range
-g2-lt : (set : ParameterSet) → T (inRange set) → indicesIn set .g2 < 32
-g2-lt (Unvoiced x) t = index-ranges x t .g2
-g2-lt (Voiced x v) t = index-ranges x (and-left (indicesFit x) (voicingFits v) t) .g2
-
 -- accepting a set in range leaves a valid record, whatever was there
 pub accepted-valid : (r : Record) (sync : Bool) (set : ParameterSet) (k : ℕ) → T (inRange set) → T (valid (accepted r sync set k .next))
 unfolding accepted
-accepted-valid r sync set k t = and-both (inRange set) (ltb (indicesIn set .g2) 32) t (lt→ltb (indicesIn set .g2) 32 (g2-lt set t))
+accepted-valid r sync set k t = and-both (inRange set) (ltb (indicesIn set .g2) 32) t (lt→ltb (indicesIn set .g2) 32 (set-ranges set t .g2))
 
 step-valid : (r : Record) (sync : Bool) (x : Reading) → T (valid r) → T (readingFits x) → T (valid (step r sync x .next))
 unfolding repeated

@@ -14,7 +14,7 @@ pub(crate) struct Spectrum {
     pub(crate) magnitudes: [i64; 10],
 }
 
-// What a fresh receiver hears in the bytes: a refusal of the frame comes first, then one of a text, then one of
+// What a fresh receiver makes of the bytes: a refusal of the frame comes first, then one of a text, then one of
 // a row.
 pub(crate) fn of_frame(bytes: &[u8], lsf: &[u8], magnitudes: &[u8]) -> Spectrum
     ensures { λ r. ⌜ r ≡ ofFrame (now (bytes .entry)) (now (lsf .entry)) (now (magnitudes .entry)) ⌝ }

@@ -3,11 +3,11 @@ use mathlib.Core.Path.{ap, _∙_}
 use lib.ListN.{length}
 use borrow.Author.Needs.{needs}
 use Rattle.frame.specs.declared.Indices.{Indices}
-use Rattle.frame.proofs.Ranges.{IndexRanges}
+use Rattle.frame.proofs.Ranges.{IndexRanges, set-ranges}
 use Rattle.frame.specs.Sets.{indicesIn}
 use Rattle.codebook.specs.Rows.{lsfSize, lsfRow}
 use Rattle.codebook.specs.Values.{rowsValues, rowsFit, ofRows, lsfValues, lsfAnswer, lsfWrites}
-use Rattle.codebook.proofs.Owed.{set-ranges, early-owes, Passed, passed, rows-owe, owed-same}
+use Rattle.codebook.proofs.Owed.{early-owes, Passed, passed, rows-owe, owed-same}
 use Rattle.codebook.proofs.values.lsf_values.Statement.{statement}
 use Rattle.codebook.proofs.values.lsf_values.Tie as tie
 
@@ -31,7 +31,7 @@ past c =
     passed (a .set) (a .codebook .now) lsfSize (length (a .out .now)) (c .before .values-refusal .result) (c .before .values-refusal .ensures) (c .if1 .left)
 
 ranges : (c : tie.After-indices-of) → IndexRanges (c .indices-of .result)
-ranges c = rw (c .indices-of .ensures) (set-ranges (c .before .before .before .args .set) (past (c .before) .range))
+ranges c = rw (c .indices-of .ensures) (set-ranges (c .before .before .before .args .set) (rw (past (c .before) .range) tt))
 
 stage-row-requires : tie.Need-stage-row-requires
 stage-row-requires c κs = (past (c .before) .whole, ranges c .l1)
