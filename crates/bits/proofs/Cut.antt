@@ -26,11 +26,6 @@ cut-ext g h i zero e = refl
 cut-ext g h i (suc n) e =
     ap₂ (λ (x : _) (xs : List _). x ∷ xs) (e i (omega arith) (omega arith)) (cut-ext g h (suc i) n (λ j l m. e j (omega arith) (omega arith)))
 
--- one entry more, at the end
-pub cut-snoc : {A : Type 0} (g : ℕ → A) (i n : ℕ) → cut g i (suc n) ≡ cut g i n ++ (g (i + n) ∷ [])
-cut-snoc g i zero = ap (λ (k : ℕ). g k ∷ []) (sym (add-zero i))
-cut-snoc g i (suc n) = ap (λ (xs : List _). g i ∷ xs) (cut-snoc g (suc i) n ∙ ap (λ (k : ℕ). cut g (suc i) n ++ (g k ∷ [])) (omega arith))
-
 -- two cuts that meet are one
 pub cut-append : {A : Type 0} (g : ℕ → A) (i m n : ℕ) → cut g i (m + n) ≡ cut g i m ++ cut g (i + m) n
 cut-append g i zero n = ap₂ (cut g) (sym (add-zero i)) (zero-add n)

@@ -4,3 +4,4 @@ pub mod Count
 pub mod Value
 pub mod Digits
 pub mod Cut
+pub mod Front

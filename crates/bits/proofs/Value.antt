@@ -38,10 +38,6 @@ value-append (b ∷ l) m =
 pub value-join : (l m : List Bool) (n x y : ℕ) → length m ≡ n → value l ≡ x → value m ≡ y → value (l ++ m) ≡ x * 2 ^ n + y
 value-join l m n x y e p q = value-append l m ∙ ap₂ (λ (a b : ℕ). a * 2 ^ length m + b) p q ∙ ap (λ (k : ℕ). x * 2 ^ k + y) e
 
--- one bit more at the end
-pub value-snoc : (l : List Bool) (b : Bool) → value (l ++ (b ∷ [])) ≡ value l * 2 + bitNum b
-value-snoc l b = value-append l (b ∷ []) ∙ omega arith
-
 -- bits of one length that stand for one number are the same
 pub value-inj : (l m : List Bool) → length l ≡ length m → value l ≡ value m → l ≡ m
 value-inj [] [] e v = refl

@@ -10,13 +10,13 @@ use Rattle.bits.specs.Bits.{cut}
 use Rattle.bits.proofs.Cut.{cut-suc}
 use Rattle.order.specs.Order.{Order, logicalBit}
 use Rattle.frame.specs.Layout.{frame}
-use Rattle.frame.specs.Reads.{read}
-use Rattle.frame.proofs.Ranges.{sendable-fits}
-use Rattle.receiver.specs.Records.{valid}
+use Rattle.reading.specs.Reads.{read}
+use Rattle.sets.proofs.Ranges.{sendable-fits}
+use Rattle.records.specs.Records.{valid}
 use Rattle.receiver.specs.Steps.{accepted}
 use Rattle.receiver.specs.Receiving.{receive}
 use Rattle.receiver.specs.declared.FrameResult.{FrameResult}
-use Rattle.receiver.specs.declared.Record.{Record}
+use Rattle.records.specs.declared.Record.{Record}
 use Rattle.receiver.specs.declared.ReceiveAnswer.{ReceiveAnswer}
 use Rattle.receiver.specs.declared.ReceiveAnswer.the-variants.{Result}
 use Rattle.receiver.specs.declared.Received.{Received}

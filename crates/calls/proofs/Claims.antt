@@ -7,9 +7,9 @@ use Prim.Native.Nat.{ℕ, suc}
 use lib.Dec.{T}
 use Rattle.order.specs.Order.{Order}
 use Rattle.frame.specs.Damage.{logicalFlips, Correctable, Within}
-use Rattle.receiver.specs.Records.{valid}
+use Rattle.records.specs.Records.{valid}
 use Rattle.receiver.specs.declared.FrameResult.{FrameResult}
-use Rattle.receiver.specs.declared.Record.{Record}
+use Rattle.records.specs.declared.Record.{Record}
 use Rattle.calls.specs.Frames.{Row, setOf, FrameClaim, RowClaim, CorrectableFrame, SameLevels, PairClaim}
 use Rattle.bits.specs.Lists.{Every, Successive}
 use Rattle.calls.proofs.OneFrame.{frame-claim, same-g2, same-levels}

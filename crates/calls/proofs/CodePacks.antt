@@ -13,7 +13,7 @@ use Rattle.order.specs.Order.{defaultOrder}
 use Rattle.order.proofs.Frames.{frame-length}
 use Rattle.frame.specs.Layout.{logicalOf, frame}
 use Rattle.frame.specs.Packing.{packRefusal, packedUnless, packAnswer, writtenUnless, packWrites}
-use Rattle.frame.specs.declared.ParameterSet.{ParameterSet}
+use Rattle.sets.specs.declared.ParameterSet.{ParameterSet}
 use Rattle.frame.specs.declared.PackAnswer.{PackAnswer}
 use Rattle.frame.proofs.pack as pack
 use Rattle.frame.proofs.pack.Reads as pack-reads

@@ -17,7 +17,7 @@ use borrow.Fn.World.{ArgsD, ResD}
 use denote.Triple.Clauses.{AtExit}
 use Rattle.order.specs.Order.{defaultOrder}
 use Rattle.receiver.specs.Receiving.{receive}
-use Rattle.receiver.specs.declared.Record.{Record}
+use Rattle.records.specs.declared.Record.{Record}
 use Rattle.receiver.specs.declared.ReceiveAnswer.{ReceiveAnswer}
 use Rattle.receiver.specs.declared.Received.{Received}
 use Rattle.receiver.proofs.receive as by-value

@@ -5,10 +5,10 @@ use mathlib.Core.List.{List}
 use Prim.Native.Nat.{ℕ}
 use lib.Dec.{T}
 use Rattle.order.specs.Order.{Order}
-use Rattle.receiver.specs.Records.{valid}
+use Rattle.records.specs.Records.{valid}
 use Rattle.receiver.specs.Steps.{accepted}
 use Rattle.receiver.specs.Receiving.{receive}
-use Rattle.receiver.specs.declared.Record.{Record}
+use Rattle.records.specs.declared.Record.{Record}
 use Rattle.receiver.specs.declared.Received.{Received}
 use Rattle.receiver.proofs.Answers.{resultIn}
 use Rattle.receiver.proofs.Results.{packed-accepted}

@@ -8,8 +8,8 @@ use Prim.Native.Nat.{ℕ}
 use Rattle.order.specs.Order.{Order}
 use Rattle.frame.specs.Packing.{freshSync}
 use Rattle.frame.specs.Damage.{logicalFlips, Correctable, Within}
-use Rattle.receiver.specs.Records.{fresh}
-use Rattle.receiver.specs.declared.Record.{Record}
+use Rattle.records.specs.Records.{fresh}
+use Rattle.records.specs.declared.Record.{Record}
 use Rattle.receiver.proofs.Validity.{fresh-valid}
 use Rattle.calls.specs.Model.{packModel, receiveModel}
 use Rattle.calls.specs.Observed.{PackCall, ReceiveCall, packLeft, packOutcome, receiveOutcome, lentAfter}

@@ -6,19 +6,19 @@ use mathlib.Core.List.{List}
 use Prim.Native.Nat.{ℕ}
 use lib.Dec.{T}
 use Rattle.order.specs.Order.{Order, through}
-use Rattle.frame.specs.Sets.{indicesIn, sendable}
+use Rattle.sets.specs.Sets.{indicesIn, sendable}
 use Rattle.frame.specs.Layout.{frame}
 use Rattle.frame.specs.Damage.{logicalFlips, Correctable, Within}
-use Rattle.frame.specs.declared.ParameterSet.{ParameterSet}
-use Rattle.frame.specs.declared.ParameterSet.the-variants.{Unvoiced, Voiced}
+use Rattle.sets.specs.declared.ParameterSet.{ParameterSet}
+use Rattle.sets.specs.declared.ParameterSet.the-variants.{Unvoiced, Voiced}
 use Rattle.gain.specs.Levels.{firstLevel}
-use Rattle.receiver.specs.Records.{valid}
+use Rattle.records.specs.Records.{valid}
 use Rattle.receiver.specs.Steps.{accepted, repeated}
 use Rattle.receiver.specs.Receiving.{receive}
 use Rattle.receiver.specs.declared.FrameResult.{FrameResult}
 use Rattle.receiver.specs.declared.Kind.{Kind}
 use Rattle.receiver.specs.declared.Kind.the-variants as kind
-use Rattle.receiver.specs.declared.Record.{Record}
+use Rattle.records.specs.declared.Record.{Record}
 use Rattle.receiver.specs.declared.Received.{Received}
 use Rattle.receiver.proofs.Answers.{resultIn}
 use Rattle.receiver.proofs.Results.{packed-accepted, correctable-accepted, double-repeated, voiced-kept}

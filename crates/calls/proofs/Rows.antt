@@ -6,11 +6,11 @@ use mathlib.Core.List.{List, [], _∷_, map, nil≢cons, cons≢nil, head-eq-of-
 use Prim.Native.Nat.{ℕ, suc}
 use lib.Dec.{T}
 use Rattle.order.specs.Order.{through}
-use Rattle.frame.specs.Sets.{sendable}
+use Rattle.sets.specs.Sets.{sendable}
 use Rattle.frame.specs.Layout.{frame}
-use Rattle.receiver.specs.Records.{valid}
+use Rattle.records.specs.Records.{valid}
 use Rattle.receiver.specs.Receiving.{receive}
-use Rattle.receiver.specs.declared.Record.{Record}
+use Rattle.records.specs.declared.Record.{Record}
 use Rattle.receiver.specs.declared.Received.{Received}
 use Rattle.receiver.proofs.Answers.{resultIn}
 use Rattle.receiver.proofs.Taken.{not-refused-only}

@@ -11,9 +11,9 @@ use Rattle.order.specs.Order.{frameRefusal}
 use Rattle.order.proofs.Refusals.{packed-taken, through-taken}
 use Rattle.frame.specs.Layout.{logicalOf}
 use Rattle.frame.specs.Packing.{freshSync, packRefusal, packedUnless, writtenUnless}
-use Rattle.receiver.specs.Records.{valid}
+use Rattle.records.specs.Records.{valid}
 use Rattle.receiver.specs.Receiving.{receive}
-use Rattle.receiver.specs.declared.Record.{Record}
+use Rattle.records.specs.declared.Record.{Record}
 use Rattle.receiver.proofs.Taken.{not-refused}
 use Rattle.receiver.proofs.Validity.{receive-valid}
 use Rattle.calls.specs.Model.{PackArguments}

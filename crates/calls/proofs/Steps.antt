@@ -8,15 +8,15 @@ use Prim.Native.Nat.{ℕ, suc}
 use native.Mathlib.Omega.{arith}
 use lib.Dec.{T, ltb}
 use lib.ListN.{length}
-use Rattle.frame.specs.Sets.{sendable}
+use Rattle.sets.specs.Sets.{sendable}
 use Rattle.frame.specs.Layout.{frame}
 use Rattle.frame.specs.Packing.{packRefusal}
-use Rattle.frame.specs.declared.ParameterSet.{ParameterSet}
+use Rattle.sets.specs.declared.ParameterSet.{ParameterSet}
 use Rattle.frame.specs.declared.PackAnswer.{PackAnswer}
 use Rattle.frame.specs.declared.PackAnswer.the-variants.{Packed, Refused}
 use Rattle.receiver.specs.Receiving.{receive}
 use Rattle.receiver.specs.declared.FrameResult.{FrameResult}
-use Rattle.receiver.specs.declared.Record.{Record}
+use Rattle.records.specs.declared.Record.{Record}
 use Rattle.receiver.specs.declared.ReceiveAnswer.{ReceiveAnswer}
 use Rattle.receiver.specs.declared.ReceiveAnswer.the-variants as answer
 use Rattle.receiver.proofs.Taken.{receive-refused}

@@ -9,8 +9,8 @@ use lib.Dec.{T}
 use Rattle.order.specs.Order.{defaultOrder}
 use Rattle.order.proofs.Default.{default-order}
 use Rattle.frame.proofs.Neighbours.{seven-neighbours}
-use Rattle.receiver.specs.Records.{valid}
-use Rattle.receiver.specs.declared.Record.{Record}
+use Rattle.records.specs.Records.{valid}
+use Rattle.records.specs.declared.Record.{Record}
 use Rattle.calls.specs.Observed.{PackCall, ReceiveCall, sent, packCallRefusal}
 use Rattle.calls.specs.Return.{Returns}
 use Rattle.calls.specs.Claim.{Session, Claim}

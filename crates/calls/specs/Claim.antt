@@ -15,8 +15,8 @@ use lib.ListN.{length}
 use Rattle.bits.specs.Bits.{cut}
 use Rattle.bits.specs.Lists.{Every, Successive}
 use Rattle.frame.specs.Packing.{freshSync}
-use Rattle.receiver.specs.Records.{fresh}
-use Rattle.receiver.specs.declared.Record.{Record}
+use Rattle.records.specs.Records.{fresh}
+use Rattle.records.specs.declared.Record.{Record}
 use Rattle.receiver.specs.declared.ReceiveAnswer.the-variants.{Result}
 use Rattle.calls.specs.Model.{done, outcomes, packModel, receiveModel}
 use Rattle.calls.specs.Observed.{PackCall, ReceiveCall, sent, packOutcome, receiveOutcome, lentAfter}

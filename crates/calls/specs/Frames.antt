@@ -5,9 +5,9 @@ use mathlib.Core.Logic.{_⊎_}
 use mathlib.Core.Bool.{Bool}
 use mathlib.Core.List.{List}
 use Rattle.bits.specs.Bits.{ones, cut}
-use Rattle.frame.specs.Sets.{indicesIn}
+use Rattle.sets.specs.Sets.{indicesIn}
 use Rattle.frame.specs.Damage.{logicalFlips, Correctable, protectedFlips, Within}
-use Rattle.frame.specs.declared.ParameterSet.{ParameterSet}
+use Rattle.sets.specs.declared.ParameterSet.{ParameterSet}
 use Rattle.receiver.specs.Steps.{kindOf}
 use Rattle.receiver.specs.declared.FrameResult.{FrameResult}
 use Rattle.receiver.specs.declared.Kind.the-variants.{Unvoiced, Voiced, Repeat}

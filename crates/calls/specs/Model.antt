@@ -5,10 +5,10 @@ use mathlib.Core.List.{List, [], _∷_}
 use lib.ListN.{length}
 use Rattle.frame.specs.Layout.{frame}
 use Rattle.frame.specs.Packing.{packRefusal}
-use Rattle.frame.specs.declared.ParameterSet.{ParameterSet}
+use Rattle.sets.specs.declared.ParameterSet.{ParameterSet}
 use Rattle.receiver.specs.Receiving.{receive}
 use Rattle.receiver.specs.declared.FrameResult.{FrameResult}
-use Rattle.receiver.specs.declared.Record.{Record}
+use Rattle.records.specs.declared.Record.{Record}
 use Rattle.receiver.specs.declared.ReceiveAnswer.{ReceiveAnswer}
 use Rattle.receiver.specs.declared.ReceiveAnswer.the-variants.{Result, Refused}
 

@@ -10,7 +10,7 @@ use Rattle.frame.specs.declared.PackAnswer.{PackAnswer}
 use Rattle.frame.specs.declared.PackAnswer.the-variants as pack
 use Rattle.receiver.specs.Receiving.{receiveRefusal}
 use Rattle.receiver.specs.declared.FrameResult.{FrameResult}
-use Rattle.receiver.specs.declared.Record.{Record}
+use Rattle.records.specs.declared.Record.{Record}
 use Rattle.receiver.specs.declared.ReceiveAnswer.{ReceiveAnswer}
 use Rattle.calls.specs.Model.{Answer, done, refused, Outcome, PackArguments, packModel, answerOf, receiveModel}
 

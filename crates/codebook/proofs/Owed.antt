@@ -9,8 +9,8 @@ use lib.Dec.{ltb, eqb}
 use lib.ListN.{length, drop}
 use lib.IntN.{ℤ}
 use borrow.Author.Tests.{ltb-false, eqb-true}
-use Rattle.frame.specs.Sets.{inRange}
-use Rattle.frame.specs.declared.ParameterSet.{ParameterSet}
+use Rattle.sets.specs.Sets.{inRange}
+use Rattle.sets.specs.declared.ParameterSet.{ParameterSet}
 use Rattle.codebook.specs.Rows.{refusal}
 use Rattle.codebook.specs.Values.{valuesRefusal, answerUnless, writtenUnless}
 use Rattle.codebook.specs.declared.ValuesAnswer.{ValuesAnswer}

@@ -8,7 +8,7 @@ use native.Mathlib.Omega.{arith}
 use lib.IntN.{ℤ, pos, negsuc, negℤ, natAbs, _+ℤ_}
 use lib.Signed.{ltZ, _≤ℤ_, ≤ℤ-refl, ltZ-yes, ltZ-no, clashℤ}
 use borrow.Author.Tests.{le-leb}
-use Rattle.frame.specs.declared.ParameterSet.{ParameterSet}
+use Rattle.sets.specs.declared.ParameterSet.{ParameterSet}
 use Rattle.codebook.specs.Rows.{between, lsfFits, allFit}
 use Rattle.codebook.specs.Values.{added, addedFour, larger, spacing, raised, rowsFit, lsfValues}
 use Rattle.codebook.proofs.Entries.{and-four}

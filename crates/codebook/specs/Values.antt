@@ -6,10 +6,10 @@ use lib.Dec.{ltb, eqb}
 use lib.ListN.{length, drop, replicate}
 use lib.IntN.{ℤ, pos, _+ℤ_}
 use lib.Signed.{ltZ}
-use Rattle.frame.specs.Sets.{indicesIn, inRange}
-use Rattle.frame.specs.declared.Indices.{Indices}
-use Rattle.frame.specs.declared.ParameterSet.{ParameterSet}
-use Rattle.frame.specs.declared.ParameterSet.the-variants.{Unvoiced, Voiced}
+use Rattle.sets.specs.Sets.{indicesIn, inRange}
+use Rattle.sets.specs.declared.Indices.{Indices}
+use Rattle.sets.specs.declared.ParameterSet.{ParameterSet}
+use Rattle.sets.specs.declared.ParameterSet.the-variants.{Unvoiced, Voiced}
 use Rattle.codebook.specs.Rows.{lsfSize, magnitudeSize, lsfRow, magnitudeRow, lsfFits, magnitudeFits, allFit, refusal}
 use Rattle.codebook.specs.declared.ValuesAnswer.{ValuesAnswer}
 use Rattle.codebook.specs.declared.ValuesAnswer.the-variants.{Written, Refused}

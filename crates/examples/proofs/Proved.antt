@@ -7,8 +7,8 @@ use Rattle.order.specs.Order.{placeOf, orderBy, defaultOrder, frameOf, bitAt, t
 use Rattle.gain.specs.Levels.{firstLevel, firstLevelAnswer}
 use Rattle.gain.specs.Choice.{nearest, chosenG1}
 use Rattle.frame.specs.Layout.{words, others, unvoicedWords, logical}
-use Rattle.frame.specs.Reads.{read}
-use Rattle.receiver.specs.Records.{fresh}
+use Rattle.reading.specs.Reads.{read}
+use Rattle.records.specs.Records.{fresh}
 use Rattle.receiver.specs.Steps.{accepted, repeated}
 use Rattle.receiver.specs.Receiving.{receive}
 use Rattle.codebook.specs.Values.{raised}

@@ -18,11 +18,11 @@ use Rattle.gain.specs.Choice.{chosenG2, chosenG1}
 use Rattle.gain.specs.declared.LevelAnswer.the-variants.{Level}
 use Rattle.frame.specs.Layout.{frame}
 use Rattle.frame.specs.Packing.{freshSync}
-use Rattle.frame.specs.Reads.{read}
-use Rattle.frame.specs.declared.ParameterSet.{ParameterSet}
-use Rattle.frame.specs.declared.ParameterSet.the-variants.{Unvoiced}
-use Rattle.frame.specs.declared.Reading.the-variants as reading
-use Rattle.receiver.specs.Records.{fresh}
+use Rattle.reading.specs.Reads.{read}
+use Rattle.sets.specs.declared.ParameterSet.{ParameterSet}
+use Rattle.sets.specs.declared.ParameterSet.the-variants.{Unvoiced}
+use Rattle.reading.specs.declared.Reading.the-variants as reading
+use Rattle.records.specs.Records.{fresh}
 use Rattle.receiver.specs.Receiving.{receive}
 use Rattle.receiver.specs.declared.FrameResult.{FrameResult}
 use Rattle.receiver.specs.declared.Kind.the-variants as kind

@@ -10,7 +10,7 @@ use Rattle.bits.specs.Bits.{bitNum, value, bit, bits}
 use Rattle.bits.proofs.Value.{value-append, value-lt-at}
 use Rattle.bits.proofs.Digits.{value-bits, value-bits-mod, bits-value, bit-is, take-bits}
 use Rattle.frame.specs.Layout.{dataA, dataB, dataC, dataD}
-use Rattle.frame.specs.declared.Indices.{Indices}
+use Rattle.sets.specs.declared.Indices.{Indices}
 
 module _ (x : Indices) where
   -- A has the bits of a quotient, and so has C

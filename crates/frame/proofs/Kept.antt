@@ -10,13 +10,13 @@ use Rattle.pitch.specs.declared.PitchClass.{PitchClass}
 use Rattle.pitch.specs.declared.PitchClass.the-variants as class
 use Rattle.pitch.proofs.Damage.{notUnvoiced, voiced-keeps}
 use Rattle.frame.specs.Layout.{words, others, voicedWords, logical, logicalOf}
-use Rattle.frame.specs.Reads.{pitchBits, byClass, read}
+use Rattle.reading.specs.Reads.{pitchBits, byClass, read}
 use Rattle.frame.specs.Damage.{damaged}
-use Rattle.frame.specs.declared.Indices.{Indices}
-use Rattle.frame.specs.declared.Voicing.{Voicing}
-use Rattle.frame.specs.declared.ParameterSet.the-variants.{Unvoiced, Voiced}
-use Rattle.frame.specs.declared.Reading.{Reading}
-use Rattle.frame.specs.declared.Reading.the-variants.{Accepted, Erased}
+use Rattle.sets.specs.declared.Indices.{Indices}
+use Rattle.sets.specs.declared.Voicing.{Voicing}
+use Rattle.sets.specs.declared.ParameterSet.the-variants.{Unvoiced, Voiced}
+use Rattle.reading.specs.declared.Reading.{Reading}
+use Rattle.reading.specs.declared.Reading.the-variants.{Accepted, Erased}
 
 -- read voiced, or erased
 abbrev pub voicedOrErased : Reading → Bool

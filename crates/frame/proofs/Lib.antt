@@ -1,14 +1,8 @@
-pub mod Ranges
 pub mod Fields
 pub mod Repaired
 pub mod Kept
 pub mod Returned
-pub mod Extent
 pub mod Ordered
 pub mod Neighbours
 pub mod Numbers
-pub mod Front
 pub mod Packed
-pub mod Cuts
-pub mod Joined
-pub mod Fits

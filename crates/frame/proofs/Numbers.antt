@@ -10,8 +10,8 @@ use Rattle.bits.proofs.Value.{value-join}
 use Rattle.bits.proofs.Digits.{value-bits, value-bits-mod, bits-value, bits-mod, take-bits}
 use Rattle.hamming.specs.Word.{parityOf}
 use Rattle.frame.specs.Layout.{dataA, dataB, dataC, dataD, words, unvoicedWords, voicedWords, others}
-use Rattle.frame.specs.declared.Indices.{Indices}
-use Rattle.frame.specs.declared.Voicing.{Voicing}
+use Rattle.sets.specs.declared.Indices.{Indices}
+use Rattle.sets.specs.declared.Voicing.{Voicing}
 use Rattle.frame.proofs.Fields.{dataA-is, dataC-is, dataD-is, dataA-value, dataB-value, dataC-value, dataD-value}
 
 module _ (x : Indices) where

@@ -9,21 +9,21 @@ use lib.Dec.{T}
 use Rattle.bits.specs.Bits.{ones, cut}
 use Rattle.order.specs.Order.{Order, logicalBit, through}
 use Rattle.order.proofs.Frames.{sent-bit, received-bit}
-use Rattle.frame.specs.Sets.{sendable}
+use Rattle.sets.specs.Sets.{sendable}
 use Rattle.frame.specs.Layout.{logicalOf, frame}
-use Rattle.frame.specs.Reads.{read}
+use Rattle.reading.specs.Reads.{read}
 use Rattle.frame.specs.Damage.{damaged, logicalFlips, Correctable, protectedFlips}
-use Rattle.frame.specs.declared.Indices.{Indices}
-use Rattle.frame.specs.declared.Voicing.{Voicing}
-use Rattle.frame.specs.declared.ParameterSet.{ParameterSet}
-use Rattle.frame.specs.declared.ParameterSet.the-variants.{Unvoiced, Voiced}
-use Rattle.frame.specs.declared.Reading.{Reading}
-use Rattle.frame.specs.declared.Reading.the-variants.{Accepted, Erased}
-use Rattle.frame.proofs.Ranges.{index-ranges, sendable-fits}
+use Rattle.sets.specs.declared.Indices.{Indices}
+use Rattle.sets.specs.declared.Voicing.{Voicing}
+use Rattle.sets.specs.declared.ParameterSet.{ParameterSet}
+use Rattle.sets.specs.declared.ParameterSet.the-variants.{Unvoiced, Voiced}
+use Rattle.reading.specs.declared.Reading.{Reading}
+use Rattle.reading.specs.declared.Reading.the-variants.{Accepted, Erased}
+use Rattle.sets.proofs.Ranges.{index-ranges, sendable-fits}
 use Rattle.frame.proofs.Repaired.{seen, correctable-read, double-read}
 use Rattle.frame.proofs.Kept.{voicedOrErased, voiced-read}
 use Rattle.frame.proofs.Returned.{read-back}
-use Rattle.frame.proofs.Extent.{read-ext}
+use Rattle.reading.proofs.Extent.{read-ext}
 
 module _ (ord : List ℕ) (o : Order ord) where
   -- demand 2: the frame of a set that a sender takes is read as that set, with nothing repaired

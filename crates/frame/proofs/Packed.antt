@@ -10,11 +10,11 @@ use Rattle.bits.specs.Bits.{value, bits}
 use Rattle.bits.proofs.Digits.{bits-value}
 use Rattle.order.specs.Order.{defaultOrder, frameOf}
 use Rattle.order.specs.Word.{wordBit}
-use Rattle.frame.specs.Sets.{sendable}
+use Rattle.sets.specs.Sets.{sendable}
 use Rattle.frame.specs.Layout.{words, others, unvoicedWords, voicedWords, logical, frame}
 use Rattle.frame.specs.Packing.{packRefusal, packedUnless, packAnswer, writtenUnless, packWrites}
-use Rattle.frame.specs.declared.ParameterSet.{ParameterSet}
-use Rattle.frame.specs.declared.ParameterSet.the-variants.{Unvoiced, Voiced}
+use Rattle.sets.specs.declared.ParameterSet.{ParameterSet}
+use Rattle.sets.specs.declared.ParameterSet.the-variants.{Unvoiced, Voiced}
 use Rattle.frame.specs.declared.PackAnswer.{PackAnswer}
 use Rattle.frame.specs.declared.PackAnswer.the-variants.{Packed, Refused}
 

@@ -16,12 +16,12 @@ use Rattle.hamming.specs.declared.Decoded.{Decoded}
 use Rattle.hamming.specs.declared.Decoded.the-variants as word
 use Rattle.hamming.proofs.Repairs.{repair, double-erases}
 use Rattle.frame.specs.Layout.{dataA, dataB, dataC, dataD, words, others, unvoicedWords, logical, logicalOf}
-use Rattle.frame.specs.Reads.{pitchBits, pitchRepaired, fromWords, byClass, read}
+use Rattle.reading.specs.Reads.{pitchBits, pitchRepaired, fromWords, byClass, read}
 use Rattle.frame.specs.Damage.{damaged, Correctable, protectedFlips}
-use Rattle.frame.specs.declared.Indices.{Indices}
-use Rattle.frame.specs.declared.ParameterSet.the-variants.{Unvoiced}
-use Rattle.frame.specs.declared.Reading.the-variants.{Accepted, Erased}
-use Rattle.frame.proofs.Ranges.{IndexRanges}
+use Rattle.sets.specs.declared.Indices.{Indices}
+use Rattle.sets.specs.declared.ParameterSet.the-variants.{Unvoiced}
+use Rattle.reading.specs.declared.Reading.the-variants.{Accepted, Erased}
+use Rattle.sets.proofs.Ranges.{IndexRanges}
 use Rattle.frame.proofs.Fields.{l1-back, g2-back, g1-back}
 
 -- a count of at most 1 is 1 or 0

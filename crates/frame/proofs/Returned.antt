@@ -6,16 +6,16 @@ use lib.Dec.{T, lit≤}
 use Rattle.bits.proofs.Every.{and-left, and-right}
 use Rattle.bits.proofs.Digits.{value-bits}
 use Rattle.pitch.proofs.Codes.{index-back}
-use Rattle.frame.specs.Sets.{indicesFit, voicingFits, inRange}
+use Rattle.sets.specs.Sets.{indicesFit, voicingFits, inRange}
 use Rattle.frame.specs.Layout.{words, others, unvoicedWords, voicedWords, logical, logicalOf}
-use Rattle.frame.specs.Reads.{byClass, read}
+use Rattle.reading.specs.Reads.{byClass, read}
 use Rattle.frame.specs.Damage.{Correctable}
-use Rattle.frame.specs.declared.Indices.{Indices}
-use Rattle.frame.specs.declared.Voicing.{Voicing}
-use Rattle.frame.specs.declared.ParameterSet.{ParameterSet}
-use Rattle.frame.specs.declared.ParameterSet.the-variants.{Unvoiced, Voiced}
-use Rattle.frame.specs.declared.Reading.the-variants.{Accepted}
-use Rattle.frame.proofs.Ranges.{IndexRanges, index-ranges, VoicingRanges, voicing-ranges}
+use Rattle.sets.specs.declared.Indices.{Indices}
+use Rattle.sets.specs.declared.Voicing.{Voicing}
+use Rattle.sets.specs.declared.ParameterSet.{ParameterSet}
+use Rattle.sets.specs.declared.ParameterSet.the-variants.{Unvoiced, Voiced}
+use Rattle.reading.specs.declared.Reading.the-variants.{Accepted}
+use Rattle.sets.proofs.Ranges.{IndexRanges, index-ranges, VoicingRanges, voicing-ranges}
 use Rattle.frame.proofs.Fields.{l1-back, g2-back, g1-back}
 use Rattle.frame.proofs.Repaired.{correctable-read}
 

@@ -7,10 +7,10 @@ use Rattle.bits.specs.Bits.{bit, bits}
 use Rattle.pitch.specs.Pitch.{codeOf, unvoicedCode}
 use Rattle.hamming.specs.Word.{parityOf}
 use Rattle.order.specs.Order.{frameOf}
-use Rattle.frame.specs.declared.Indices.{Indices}
-use Rattle.frame.specs.declared.Voicing.{Voicing}
-use Rattle.frame.specs.declared.ParameterSet.{ParameterSet}
-use Rattle.frame.specs.declared.ParameterSet.the-variants.{Unvoiced, Voiced}
+use Rattle.sets.specs.declared.Indices.{Indices}
+use Rattle.sets.specs.declared.Voicing.{Voicing}
+use Rattle.sets.specs.declared.ParameterSet.{ParameterSet}
+use Rattle.sets.specs.declared.ParameterSet.the-variants.{Unvoiced, Voiced}
 
 -- the data of word A: L1 bits 6 to 3
 abbrev pub dataA : Indices → List Bool

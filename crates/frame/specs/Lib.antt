@@ -1,5 +1,3 @@
-pub mod Sets
 pub mod Layout
-pub mod Reads
 pub mod Damage
 pub mod Packing

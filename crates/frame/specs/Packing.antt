@@ -5,9 +5,9 @@ use mathlib.Core.List.{List, _++_}
 use lib.Dec.{ltb}
 use lib.ListN.{length, drop}
 use Rattle.order.specs.Order.{defaultOrder}
-use Rattle.frame.specs.Sets.{sendable}
+use Rattle.sets.specs.Sets.{sendable}
 use Rattle.frame.specs.Layout.{frame}
-use Rattle.frame.specs.declared.ParameterSet.{ParameterSet}
+use Rattle.sets.specs.declared.ParameterSet.{ParameterSet}
 use Rattle.frame.specs.declared.PackAnswer.{PackAnswer}
 use Rattle.frame.specs.declared.PackAnswer.the-variants.{Packed, Refused}
 

@@ -1,9 +1,9 @@
 // Packing: a parameter set and a sync bit into the seven bytes of a frame.
 use crate::PackAnswer;
-use crate::ParameterSet;
-use crate::range::is_sendable;
 use crate::word::logical_word;
 use order::place_bits;
+use sets::ParameterSet;
+use sets::is_sendable;
 ghost use mathlib.Core.Path.{_≡_};
 ghost use mathlib.Core.List.{_++_};
 ghost use Prim.Native.Nat.{_≤_};

@@ -1,15 +1,15 @@
 // The 54 logical bits of a set and a sync bit, as one number: logical bit 0 is the most significant.
-use crate::Indices;
-use crate::ParameterSet;
-use crate::Voicing;
 use hamming::WordLength;
 use hamming::parity_of;
 use pitch::code_of;
+use sets::Indices;
+use sets::ParameterSet;
+use sets::Voicing;
 ghost use mathlib.Core.Path.{_≡_};
 ghost use mathlib.Core.Bool.{true};
-ghost use Prim.Native.Nat.{_≤_, _<_, _^_};
+ghost use Prim.Native.Nat.{_+_, _*_, _≤_, _<_, _^_};
 ghost use Rattle.bits.specs.Bits.{bitNum, value, bits};
-ghost use Rattle.frame.specs.Sets.{sendable};
+ghost use Rattle.sets.specs.Sets.{sendable};
 ghost use Rattle.frame.specs.Layout.{words, unvoicedWords, voicedWords, others, logical};
 
 // A bit as a number.
@@ -17,6 +17,14 @@ fn bit_number(b: bool) -> u64
     ensures { λ r. ⌜ (r ≡ bitNum b) × (r ≤ 1) ⌝ }
 {
     if b { 1 } else { 0 }
+}
+
+// Words of 8, 6, 7 and 7 bits as one number.
+fn joined(a: u8, b: u8, c: u8, d: u8) -> u64
+    requires { ⌜ (b < 64) × (c < 128) × (d < 128) ⌝ }
+    ensures { λ r. ⌜ (r ≡ ((a * 64 + b) * 128 + c) * 128 + d) × (r < 2 ^ 28) ⌝ }
+{
+    ((a as u64 * 64 + b as u64) * 128 + c as u64) * 128 + d as u64
 }
 
 // The four words, 28 bits: each word's data above what stands in its parity places.
@@ -29,7 +37,7 @@ fn four_words(x: Indices, pa: u8, pb: u8, pc: u8, pd: u8) -> u64
     let b = x.l1 % 8 * 8 + pb;
     let c = x.g2 / 2 * 8 + pc;
     let d = (x.g2 % 2 * 8 + x.g1) * 8 + pd;
-    ((a as u64 * 64 + b as u64) * 128 + c as u64) * 128 + d as u64
+    joined(a, b, c, d)
 }
 
 // The other bits, 26 of them: the pitch code, L2, L3, L4 and the sync bit.

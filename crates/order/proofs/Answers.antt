@@ -1,25 +1,22 @@
 -- What a call that takes a frame's logical bits owes in each of its three cases, and that places read from one number are those of the bytes.
 -- Assumes nothing.
-use mathlib.Core.Path.{_≡_, refl, sym, ap, _∙_, subst}
+use mathlib.Core.Path.{_≡_, refl, sym, ap, _∙_}
 use mathlib.Core.Bool.{Bool, true, false, cond}
 use mathlib.Core.List.{List, [], _∷_}
-use Prim.Native.Nat.{ℕ, _+_, _*_, _%_, _^_, _≤_, _<_}
-use native.Mathlib.Nat.{lt-of-lt-of-le}
+use Prim.Native.Nat.{ℕ, _+_, _*_, _%_, _<_}
 use native.Mathlib.Omega.{arith}
 use lib.Dec.{eqb}
 use lib.ListN.{length, getD}
-use lib.Pow.{pow-mono}
 use borrow.Author.Tests.{eq-eqb, ne-eqb}
 use Rattle.bits.specs.Bits.{ones, value, cut}
-use Rattle.bits.proofs.Cut.{length-cut, cut-ext, cut-append}
-use Rattle.bits.proofs.Value.{value-lt-at, value-join}
+use Rattle.bits.proofs.Cut.{cut-ext}
 use Rattle.order.specs.Order.{defaultOrder, placeOf, bitAt, logicalBit, padding, frameRefusal}
 use Rattle.order.specs.Word.{wordBit}
 use Rattle.order.specs.Taking.{bitsUnless, bitsAnswer}
 use Rattle.order.specs.declared.BitsAnswer.the-variants.{Bits, Refused}
 use Rattle.order.proofs.Bytes.{byte-back, padding-is}
 use Rattle.order.proofs.Places.{place-lt}
-use Rattle.order.proofs.Words.{word-back}
+use Rattle.order.proofs.Words.{group-more, word-back}
 use Rattle.order.proofs.Default.{default-order}
 
 -- two bits have no ones where they stand for 0
@@ -33,20 +30,7 @@ module _ (bytes : List ℕ) where
   -- one byte more
   pub byte-more : (i x : ℕ) → getD bytes i 0 < 256 → x ≡ value (cut (bitAt bytes) 0 (8 * i))
       → x * 256 + getD bytes i 0 ≡ value (cut (bitAt bytes) 0 (8 * (i + 1)))
-  byte-more i x h e =
-      let g : ℕ → Bool = bitAt bytes in
-      let q : 0 + 8 * i ≡ 8 * i = omega arith in
-      let n : 8 * (i + 1) ≡ 8 * i + 8 = omega arith in
-      sym (ap (λ (k : ℕ). value (cut g 0 k)) n ∙ ap value (cut-append g 0 (8 * i) 8)
-      ∙ value-join (cut g 0 (8 * i)) (cut g (0 + 8 * i) 8) 8 x (getD bytes i 0) (length-cut g (0 + 8 * i) 8) (sym e)
-      (ap (λ (k : ℕ). value (cut g k 8)) q ∙ byte-back bytes i h))
-
-  -- what is joined of at most six bytes stays below 2 ^ 48
-  pub bytes-lt : (i x : ℕ) → i ≤ 6 → x ≡ value (cut (bitAt bytes) 0 (8 * i)) → x < 2 ^ 48
-  bytes-lt i x l e =
-      let m : 8 * i ≤ 48 = omega arith in
-      subst (λ (y : ℕ). y < 2 ^ 48) (sym e)
-      (lt-of-lt-of-le (value-lt-at (8 * i) (cut (bitAt bytes) 0 (8 * i)) (length-cut (bitAt bytes) 0 (8 * i))) (pow-mono m))
+  byte-more i x h e = group-more (bitAt bytes) 8 i x (getD bytes i 0) e (sym (byte-back bytes i h))
 
   -- the logical bits of the number that the places make are those of the bytes
   pub logical-is : (w : ℕ) → w ≡ value (cut (bitAt bytes) 0 56)

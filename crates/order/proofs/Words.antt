@@ -1,18 +1,18 @@
--- A frame's bits carried in one number: a bit is a shift, a byte is a shift and a remainder, and the places gathered one by one are the frame.
+-- A frame's bits carried in one number: a bit is a shift, a byte is a shift and a remainder, and the places gathered are the frame.
 -- Assumes nothing.
-use mathlib.Core.Path.{_≡_, sym, ap, ap₂, _∙_, subst}
+use mathlib.Core.Path.{_≡_, sym, ap, ap₂, _∙_}
 use mathlib.Core.Bool.{Bool, false}
-use mathlib.Core.List.{List}
+use mathlib.Core.List.{List, [], _∷_}
 use Prim.Native.Nat.{ℕ, suc, _+_, _*_, _-_, _/_, _%_, _^_, _≤_, _<_}
-use native.Mathlib.Nat.{zero-add, lt-of-lt-of-le}
+use native.Mathlib.Nat.{add-zero, zero-add, mul-suc, lt-of-lt-of-le}
 use native.Mathlib.Numerals.{add-one}
 use native.Mathlib.Omega.{arith}
 use lib.Dec.{lit≤}
 use lib.ListN.{getD, take}
 use lib.Pow.{pow-mono}
 use Rattle.bits.specs.Bits.{bitNum, value, bits, cut}
-use Rattle.bits.proofs.Cut.{length-cut, cut-at, cut-snoc, cut-part}
-use Rattle.bits.proofs.Value.{value-lt-at, value-snoc}
+use Rattle.bits.proofs.Cut.{length-cut, cut-at, cut-append, cut-part}
+use Rattle.bits.proofs.Value.{value-bound, value-join}
 use Rattle.bits.proofs.Digits.{value-bits-mod, bits-value, bits-at, bit-is, take-bits, drop-bits, length-bits}
 use Rattle.order.specs.Order.{placed, bytesOf}
 use Rattle.order.specs.Word.{wordBit}
@@ -30,16 +30,24 @@ word-part a k c word =
     ∙ take-bits k c word)
     ∙ value-bits-mod k (word / 2 ^ c)
 
--- one place more
-pub gather-more : (h : ℕ → Bool) (t x b : ℕ) → x ≡ value (cut h 0 t) → b ≡ bitNum (h t) → x * 2 + b ≡ value (cut h 0 (t + 1))
-gather-more h t x b e f =
-    ap₂ (λ (y z : ℕ). y * 2 + z) e f
-    ∙ sym (ap (λ (k : ℕ). value (cut h 0 k)) (add-one t) ∙ ap value (cut-snoc h 0 t) ∙ value-snoc (cut h 0 t) (h (0 + t))
-    ∙ ap (λ (k : ℕ). value (cut h 0 t) * 2 + bitNum (h k)) (omega arith))
+-- n places from a on, and the m after them: the first number moves up by m
+pub join-more : (h : ℕ → Bool) (a n m x y : ℕ) → x ≡ value (cut h a n) → y ≡ value (cut h (a + n) m) → x * 2 ^ m + y ≡ value (cut h a (n + m))
+join-more h a n m x y e f =
+    sym (ap value (cut-append h a n m) ∙ value-join (cut h a n) (cut h (a + n) m) m x y (length-cut h (a + n) m) (sym e) (sym f))
 
--- what is gathered of at most 54 places stays below 2 ^ 54
-pub gather-lt : (h : ℕ → Bool) (t x : ℕ) → t ≤ 54 → x ≡ value (cut h 0 t) → x < 2 ^ 54
-gather-lt h t x l e = subst (λ (y : ℕ). y < 2 ^ 54) (sym e) (lt-of-lt-of-le (value-lt-at t (cut h 0 t) (length-cut h 0 t)) (pow-mono l))
+-- one place more
+pub gather-more : (h : ℕ → Bool) (a n x b : ℕ) → x ≡ value (cut h a n) → b ≡ bitNum (h (a + n)) → x * 2 + b ≡ value (cut h a (n + 1))
+gather-more h a n x b e f = join-more h a n 1 x b e (omega arith)
+
+-- one group of k places more
+pub group-more : (h : ℕ → Bool) (k i x y : ℕ) → x ≡ value (cut h 0 (k * i)) → y ≡ value (cut h (k * i) k) → x * 2 ^ k + y ≡ value (cut h 0 (k * (i + 1)))
+group-more h k i x y e f =
+    join-more h 0 (k * i) k x y e (f ∙ ap (λ (s : ℕ). value (cut h s k)) (sym (zero-add (k * i))))
+    ∙ ap (λ (n : ℕ). value (cut h 0 n)) (sym (ap (λ (j : ℕ). k * j) (add-one i) ∙ mul-suc k i))
+
+-- at most m places stay below 2 ^ m
+pub gather-lt : (h : ℕ → Bool) (a n m x : ℕ) → n ≤ m → x ≡ value (cut h a n) → x < 2 ^ m
+gather-lt h a n m x l e = lt-of-lt-of-le (value-bound n (cut h a n) x (length-cut h a n) e) (pow-mono l)
 
 -- a number made of n bits has those bits
 pub word-back : (n : ℕ) (g : ℕ → Bool) (w j : ℕ) → w ≡ value (cut g 0 n) → j < n → wordBit n w j ≡ g j
@@ -54,9 +62,8 @@ module _ (ord : List ℕ) (g : ℕ → Bool) where
   padded : (x : ℕ) → x ≡ value (cut (placed ord g) 0 54) → x * 4 ≡ value (cut (placed ord g) 0 56)
   padded x e =
       let h : ℕ → Bool = placed ord g in
-      let one : x * 2 + 0 ≡ value (cut h 0 55) = gather-more h 54 x 0 e (ap bitNum (sym (placed-past ord g 54 (lit≤ tt)))) in
-      let two : (x * 2 + 0) * 2 + 0 ≡ value (cut h 0 56) = gather-more h 55 (x * 2 + 0) 0 one (ap bitNum (sym (placed-past ord g 55 (lit≤ tt)))) in
-      omega arith
+      sym (add-zero (x * 4))
+      ∙ join-more h 0 54 2 x 0 e (ap₂ (λ (y z : Bool). value (y ∷ z ∷ [])) (sym (placed-past ord g 54 (lit≤ tt))) (sym (placed-past ord g 55 (lit≤ tt))))
 
   pub gathered : (x : ℕ) → x ≡ value (cut (placed ord g) 0 54) → bytesOf (wordBit 56 (x * 4)) ≡ bytesOf (placed ord g)
   gathered x e = bytes-ext (wordBit 56 (x * 4)) (placed ord g) (λ t h. word-back 56 (placed ord g) (x * 4) t (padded x e) h)

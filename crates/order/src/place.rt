@@ -1,9 +1,9 @@
 // The seven bytes of 54 logical bits in the default order.
 ghost use mathlib.Core.Path.{_≡_};
-ghost use Prim.Native.Nat.{_≤_, _<_};
+ghost use Prim.Native.Nat.{_*_, _≤_, _<_};
 ghost use lib.ListN.{getD};
-ghost use Rattle.bits.specs.Bits.{bitNum, bits, cut};
-ghost use Rattle.order.specs.Order.{defaultOrder, byteOf, frameOf};
+ghost use Rattle.bits.specs.Bits.{bitNum, value, cut};
+ghost use Rattle.order.specs.Order.{defaultOrder, placed, byteOf, frameOf};
 ghost use Rattle.order.specs.Word.{wordBit};
 
 // The logical bit that goes to place t; logical bit 0 is the most significant of the 54.
@@ -12,6 +12,18 @@ fn placed_bit(word: u64, t: usize) -> u64
     ensures { λ r. ⌜ (r ≡ bitNum (wordBit 54 word (getD defaultOrder t 0))) × (r ≤ 1) ⌝ }
 {
     (word >> (53 - DEFAULT_ORDER[t])) % 2
+}
+
+// What stands at the six places from 6 × a on.
+fn six_places(word: u64, a: usize) -> u64
+    requires { ⌜ a < 9 ⌝ }
+    ensures { λ r. ⌜ (r ≡ value (cut (placed defaultOrder (wordBit 54 word)) (6 * a) 6)) × (r < 64) ⌝ }
+{
+    let mut six: u64 = 0;
+    for b in 0..6 {
+        six = six * 2 + placed_bit(word, 6 * a + b);
+    }
+    six
 }
 
 // The seven bytes of a number's low 56 bits, most significant first.
@@ -29,13 +41,14 @@ fn seven_bytes(word: u64) -> [u8; 7]
     ]
 }
 
-// The frame of the logical bits in the low 54 bits of a number.
+// The frame of the logical bits in the low 54 bits of a number. The places are filled six at a time: so short a loop is unrolled,
+// and then each shift is a constant.
 pub fn place_bits(word: u64) -> [u8; 7]
     ensures { λ r. ⌜ r ≡ frameOf defaultOrder (wordBit 54 word) ⌝ }
 {
     let mut placed: u64 = 0;
-    for t in 0..54 {
-        placed = placed * 2 + placed_bit(word, t);
+    for a in 0..9 {
+        placed = placed * 64 + six_places(word, a);
     }
     seven_bytes(placed * 4)
 }

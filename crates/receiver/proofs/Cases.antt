@@ -13,13 +13,13 @@ use Rattle.order.specs.Word.{wordBit}
 use Rattle.order.specs.Taking.{bitsUnless, bitsAnswer}
 use Rattle.order.proofs.Words.{word-back}
 use Rattle.order.specs.declared.BitsAnswer.the-variants as taking
-use Rattle.frame.specs.Reads.{read}
-use Rattle.frame.specs.declared.Reading.{Reading}
-use Rattle.frame.proofs.Extent.{read-ext}
-use Rattle.receiver.specs.Records.{valid}
+use Rattle.reading.specs.Reads.{read}
+use Rattle.reading.specs.declared.Reading.{Reading}
+use Rattle.reading.proofs.Extent.{read-ext}
+use Rattle.records.specs.Records.{valid}
 use Rattle.receiver.specs.Steps.{step}
 use Rattle.receiver.specs.Receiving.{receiveRefusal, receiveUnless, firstRefusal, receive}
-use Rattle.receiver.specs.declared.Record.{Record}
+use Rattle.records.specs.declared.Record.{Record}
 use Rattle.receiver.specs.declared.ReceiveAnswer.the-variants.{Refused}
 
 -- the last bit of a number is its remainder

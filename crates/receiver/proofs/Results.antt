@@ -12,22 +12,22 @@ use Rattle.bits.proofs.Every.{and-left, and-right}
 use Rattle.order.specs.Order.{Order, placeOf, logicalBit, through}
 use Rattle.order.proofs.Frames.{sent-bit, received-bit}
 use Rattle.order.proofs.Refusals.{packed-taken, through-taken}
-use Rattle.frame.specs.Sets.{indicesFit, voicingFits, sendable}
+use Rattle.sets.specs.Sets.{indicesFit, voicingFits, sendable}
 use Rattle.frame.specs.Layout.{words, others, unvoicedWords, voicedWords, logical, logicalOf, frame}
-use Rattle.frame.specs.Reads.{read}
+use Rattle.reading.specs.Reads.{read}
 use Rattle.frame.specs.Damage.{logicalFlips, Correctable, protectedFlips}
-use Rattle.frame.specs.declared.Indices.{Indices}
-use Rattle.frame.specs.declared.Voicing.{Voicing}
-use Rattle.frame.specs.declared.ParameterSet.{ParameterSet}
-use Rattle.frame.specs.declared.ParameterSet.the-variants.{Unvoiced, Voiced}
-use Rattle.frame.proofs.Ranges.{voicing-ranges}
+use Rattle.sets.specs.declared.Indices.{Indices}
+use Rattle.sets.specs.declared.Voicing.{Voicing}
+use Rattle.sets.specs.declared.ParameterSet.{ParameterSet}
+use Rattle.sets.specs.declared.ParameterSet.the-variants.{Unvoiced, Voiced}
+use Rattle.sets.proofs.Ranges.{voicing-ranges}
 use Rattle.frame.proofs.Repaired.{seen}
 use Rattle.frame.proofs.Ordered.{packed-returns, correctable-returns, double-erased, voiced-returns}
-use Rattle.receiver.specs.Records.{valid}
+use Rattle.records.specs.Records.{valid}
 use Rattle.receiver.specs.Steps.{accepted, repeated, step}
 use Rattle.receiver.specs.Receiving.{receive}
 use Rattle.receiver.specs.declared.Kind.the-variants as kind
-use Rattle.receiver.specs.declared.Record.{Record}
+use Rattle.records.specs.declared.Record.{Record}
 use Rattle.receiver.specs.declared.Received.{Received}
 use Rattle.receiver.proofs.Answers.{resultIn, step-kind}
 use Rattle.receiver.proofs.Taken.{not-refused, receive-taken}

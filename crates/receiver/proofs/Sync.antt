@@ -5,13 +5,13 @@ use mathlib.Core.Bool.{Bool}
 use mathlib.Core.List.{List}
 use Prim.Native.Nat.{ℕ, _<_}
 use Rattle.order.specs.Order.{logicalBit}
-use Rattle.frame.specs.Reads.{read}
-use Rattle.frame.specs.declared.Reading.{Reading}
-use Rattle.frame.specs.declared.Reading.the-variants.{Accepted, Erased}
-use Rattle.frame.proofs.Extent.{read-ext}
+use Rattle.reading.specs.Reads.{read}
+use Rattle.reading.specs.declared.Reading.{Reading}
+use Rattle.reading.specs.declared.Reading.the-variants.{Accepted, Erased}
+use Rattle.reading.proofs.Extent.{read-ext}
 use Rattle.receiver.specs.Steps.{accepted, repeated, step}
 use Rattle.receiver.specs.Receiving.{receiveRefusal, receive}
-use Rattle.receiver.specs.declared.Record.{Record}
+use Rattle.records.specs.declared.Record.{Record}
 use Rattle.receiver.specs.declared.ReceiveAnswer.{ReceiveAnswer}
 use Rattle.receiver.specs.declared.ReceiveAnswer.the-variants.{Result, Refused}
 use Rattle.receiver.specs.declared.Received.{Received}

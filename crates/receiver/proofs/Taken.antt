@@ -8,11 +8,11 @@ use native.Mathlib.Omega.{arith}
 use lib.Dec.{T}
 use Rattle.bits.proofs.Every.{true-T}
 use Rattle.order.specs.Order.{logicalBit, frameRefusal}
-use Rattle.frame.specs.Reads.{read}
-use Rattle.receiver.specs.Records.{valid}
+use Rattle.reading.specs.Reads.{read}
+use Rattle.records.specs.Records.{valid}
 use Rattle.receiver.specs.Steps.{step}
 use Rattle.receiver.specs.Receiving.{firstRefusal, receiveRefusal, receiveUnless, receive}
-use Rattle.receiver.specs.declared.Record.{Record}
+use Rattle.records.specs.declared.Record.{Record}
 
 -- a frame that is taken and a valid record are not refused
 pub not-refused : (r : Record) (bytes : List ℕ) → frameRefusal bytes ≡ 0 → T (valid r) → receiveRefusal r bytes ≡ 0

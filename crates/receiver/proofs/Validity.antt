@@ -6,17 +6,17 @@ use Prim.Native.Nat.{ℕ, zero, suc}
 use lib.Dec.{T, ltb, lt→ltb}
 use Rattle.bits.proofs.Every.{and-both}
 use Rattle.order.specs.Order.{logicalBit}
-use Rattle.frame.specs.Sets.{indicesIn, inRange}
-use Rattle.frame.specs.Reads.{read}
-use Rattle.frame.specs.declared.ParameterSet.{ParameterSet}
-use Rattle.frame.specs.declared.Reading.{Reading}
-use Rattle.frame.specs.declared.Reading.the-variants.{Accepted, Erased}
-use Rattle.frame.proofs.Ranges.{set-ranges}
-use Rattle.frame.proofs.Fits.{readingFits, read-fits}
-use Rattle.receiver.specs.Records.{fresh, valid}
+use Rattle.sets.specs.Sets.{indicesIn, inRange}
+use Rattle.reading.specs.Reads.{read}
+use Rattle.sets.specs.declared.ParameterSet.{ParameterSet}
+use Rattle.reading.specs.declared.Reading.{Reading}
+use Rattle.reading.specs.declared.Reading.the-variants.{Accepted, Erased}
+use Rattle.sets.proofs.Ranges.{set-ranges}
+use Rattle.reading.proofs.Fits.{readingFits, read-fits}
+use Rattle.records.specs.Records.{fresh, valid}
 use Rattle.receiver.specs.Steps.{accepted, repeated, step}
 use Rattle.receiver.specs.Receiving.{receiveRefusal, receiveUnless, receive}
-use Rattle.receiver.specs.declared.Record.{Record}
+use Rattle.records.specs.declared.Record.{Record}
 
 -- a fresh record is valid
 pub fresh-valid : T (valid fresh)

@@ -1,3 +1,2 @@
-pub mod Records
 pub mod Steps
 pub mod Receiving

@@ -3,11 +3,11 @@ use Prim.Native.Nat.{ℕ, zero, suc}
 use mathlib.Core.Bool.{cond}
 use mathlib.Core.List.{List}
 use Rattle.order.specs.Order.{logicalBit, frameRefusal}
-use Rattle.frame.specs.Reads.{read}
-use Rattle.receiver.specs.declared.Record.{Record}
+use Rattle.reading.specs.Reads.{read}
+use Rattle.records.specs.declared.Record.{Record}
 use Rattle.receiver.specs.declared.ReceiveAnswer.the-variants.{Refused}
 use Rattle.receiver.specs.declared.Received.{Received}
-use Rattle.receiver.specs.Records.{valid}
+use Rattle.records.specs.Records.{valid}
 use Rattle.receiver.specs.Steps.{step}
 
 -- of two refusals the first that applies, 0 is none

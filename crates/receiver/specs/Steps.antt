@@ -2,18 +2,18 @@
 use Prim.Native.Nat.{ℕ}
 use mathlib.Core.Bool.{Bool}
 use Rattle.gain.specs.Levels.{level, firstLevel}
-use Rattle.frame.specs.Sets.{indicesIn}
-use Rattle.frame.specs.declared.ParameterSet.{ParameterSet}
-use Rattle.frame.specs.declared.ParameterSet.the-variants.{Unvoiced, Voiced}
-use Rattle.frame.specs.declared.Reading.{Reading}
-use Rattle.frame.specs.declared.Reading.the-variants as reading
-use Rattle.receiver.specs.declared.FrameKind.the-variants.{Accepted, Repeat}
+use Rattle.sets.specs.Sets.{indicesIn}
+use Rattle.sets.specs.declared.ParameterSet.{ParameterSet}
+use Rattle.sets.specs.declared.ParameterSet.the-variants.{Unvoiced, Voiced}
+use Rattle.reading.specs.declared.Reading.{Reading}
+use Rattle.reading.specs.declared.Reading.the-variants as reading
+use Rattle.records.specs.declared.FrameKind.the-variants.{Accepted, Repeat}
 use Rattle.receiver.specs.declared.Kind.{Kind}
 use Rattle.receiver.specs.declared.Kind.the-variants as kind
-use Rattle.receiver.specs.declared.Record.{Record}
+use Rattle.records.specs.declared.Record.{Record}
 use Rattle.receiver.specs.declared.ReceiveAnswer.the-variants.{Result}
 use Rattle.receiver.specs.declared.Received.{Received}
-use Rattle.receiver.specs.Records.{pushed, muted}
+use Rattle.records.specs.Records.{pushed, muted}
 
 -- the kind of an accepted frame
 abbrev pub kindOf : ParameterSet → Kind

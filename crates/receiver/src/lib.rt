@@ -1,38 +1,14 @@
 // The receiver: its record, and what a frame yields and leaves.
 //
-//   state      the fresh record, and the range test of a record
-//   history    the kinds of the latest sixteen frames
 //   steps      what an accepted frame and a repeat yield
 //   receiving  the calls that take a frame
-mod history;
 mod receiving;
-mod state;
 mod steps;
 
-use frame::ParameterSet;
 pub use receiving::receive;
 pub use receiving::receive_in_place;
-pub use state::fresh;
-pub use state::is_valid;
-
-// Whether a frame was a repeat or not.
-pub enum FrameKind {
-    Accepted,
-    Repeat,
-}
-
-// One of the latest frames, by its kind.
-pub struct Past {
-    pub kind: FrameKind,
-}
-
-// What a receiver keeps: the last accepted set, the last accepted G2, and the kinds of the latest sixteen
-// frames, oldest first.
-pub struct Record {
-    pub last: ParameterSet,
-    pub g2: u8,
-    pub kinds: [Past; 16],
-}
+use records::Record;
+use sets::ParameterSet;
 
 // The kind of a result.
 pub enum Kind {

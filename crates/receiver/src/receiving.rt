@@ -1,12 +1,12 @@
 // The calls that take a frame.
 use crate::ReceiveAnswer;
 use crate::Received;
-use crate::Record;
-use crate::state::is_valid;
 use crate::steps::step;
-use frame::read;
 use order::BitsAnswer;
 use order::logical_bits;
+use reading::read;
+use records::Record;
+use records::is_valid;
 ghost use mathlib.Core.Path.{_≡_};
 ghost use Rattle.order.specs.Order.{defaultOrder};
 ghost use Rattle.receiver.specs.Receiving.{receive};

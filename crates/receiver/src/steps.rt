@@ -1,17 +1,17 @@
 // What an accepted frame and a repeat yield, and the record they leave.
-use crate::FrameKind;
 use crate::FrameResult;
 use crate::Kind;
 use crate::ReceiveAnswer;
 use crate::Received;
-use crate::Record;
-use crate::history::is_muted;
-use crate::history::push;
-use frame::ParameterSet;
-use frame::Reading;
-use frame::indices_of;
 use gain::first_gain_level;
 use gain::gain_level;
+use reading::Reading;
+use records::FrameKind;
+use records::Record;
+use records::is_muted;
+use records::push;
+use sets::ParameterSet;
+use sets::indices_of;
 ghost use mathlib.Core.Path.{_≡_};
 ghost use Rattle.receiver.specs.Steps.{kindOf, accepted, repeated, step};
 

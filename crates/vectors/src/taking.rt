@@ -1,13 +1,13 @@
 // Vectors of receiving.
 use crate::vector::set_of;
 use crate::vector::wide;
-use frame::ParameterSet;
-use receiver::FrameKind;
 use receiver::FrameResult;
 use receiver::Kind;
-use receiver::Past;
 use receiver::ReceiveAnswer;
-use receiver::Record;
+use records::FrameKind;
+use records::Past;
+use records::Record;
+use sets::ParameterSet;
 ghost use Prim.Native.Nat.{_≤_};
 
 // A kind in the record by its bit, 1 for a repeat.

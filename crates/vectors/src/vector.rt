@@ -1,7 +1,7 @@
 // The 64 bytes of a vector, and what stands in them.
-use frame::Indices;
-use frame::ParameterSet;
-use frame::Voicing;
+use sets::Indices;
+use sets::ParameterSet;
+use sets::Voicing;
 ghost use Prim.Native.Nat.{_+_, _*_, _/_, _<_, _≤_};
 ghost use lib.ListN.{length};
 

@@ -5,12 +5,11 @@ use mathlib.Core.List.{List, _++_}
 use Prim.Native.Nat.{_+_, _*_, _-_, _≤_, _<_}
 use native.Mathlib.Omega.{arith}
 use lib.ListN.{length, getD, take, drop}
-use lib.Seq.{take-all}
 use lib.IntN.{ℤ, pos, natAbs, _+ℤ_}
 use mir.Syntax.{w64}
 use mir.Val.{toZ, ofZ}
 use borrow.Author.Needs.{needs}
-use Rattle.frame.proofs.Front.{front-more}
+use Rattle.bits.proofs.Front.{front-more, front-all}
 use Rattle.codebook.specs.Values.{addedFour, larger, spacing, raised, rowsValues}
 use Rattle.codebook.proofs.Sizes.{back, abs-add, abs-larger}
 use Rattle.codebook.proofs.Sums.{four-length}
@@ -100,10 +99,10 @@ same-length c = search needs
 
 returns : tie.Need-returns Inv-loop μ-loop
 returns c =
+    let L = c .before .loop in
     let s = c .before .before in
-    let e : c .before .loop .k ≡ 10 = omega arith in
     let m : length (raised spacing (sums s)) ≤ 10 = omega (arith, ten s, raised-length spacing (sums s)) in
-    (rw e at (c .before .loop .inv .4)) ∙ ap (λ (t : List ℤ). t ++ drop 10 (s .args .out .now)) (take-all 10 (raised spacing (sums s)) m)
+    front-all (raised spacing (sums s)) (s .args .out .now) (L .out) (L .k) 10 (L .inv .4) (omega arith) m
 
 pub write-raised-spec : {M : Type 1} → statement M
 write-raised-spec =

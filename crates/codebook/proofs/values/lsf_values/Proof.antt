@@ -2,9 +2,9 @@
 use mathlib.Core.Path.{ap, _∙_}
 use lib.ListN.{length}
 use borrow.Author.Needs.{needs}
-use Rattle.frame.specs.declared.Indices.{Indices}
-use Rattle.frame.proofs.Ranges.{IndexRanges, set-ranges}
-use Rattle.frame.specs.Sets.{indicesIn}
+use Rattle.sets.specs.declared.Indices.{Indices}
+use Rattle.sets.proofs.Ranges.{IndexRanges, set-ranges}
+use Rattle.sets.specs.Sets.{indicesIn}
 use Rattle.codebook.specs.Rows.{lsfSize, lsfRow}
 use Rattle.codebook.specs.Values.{rowsValues, rowsFit, ofRows, lsfValues, lsfAnswer, lsfWrites}
 use Rattle.codebook.proofs.Owed.{early-owes, Passed, passed, rows-owe, owed-same}

@@ -4,10 +4,9 @@ use mathlib.Core.List.{_++_}
 use Prim.Native.Nat.{_-_, _≤_, _<_}
 use native.Mathlib.Omega.{arith}
 use lib.ListN.{length, take, drop}
-use lib.Seq.{take-all}
 use lib.IntN.{pos}
 use borrow.Author.Needs.{needs}
-use Rattle.frame.proofs.Front.{front-more}
+use Rattle.bits.proofs.Front.{front-more, front-all}
 use Rattle.codebook.proofs.Sizes.{back}
 use Rattle.codebook.proofs.writing.write_front.Statement.{statement}
 use Rattle.codebook.proofs.writing.write_front.Tie as tie
@@ -54,10 +53,9 @@ same-length c = search needs
 
 returns : tie.Need-returns Inv-loop μ-loop
 returns c =
-    let v = c .before .before .args .values .now in
-    let e : c .before .loop .i ≡ 10 = omega arith in
-    let m : length v ≤ 10 = omega arith in
-    cc (take-all 10 v m)
+    let L = c .before .loop in
+    let s = c .before .before .args in
+    front-all (s .values .now) (s .out .now) (L .out) (L .i) 10 (L .inv .2) (omega arith) (omega arith)
 
 pub write-front-spec : {M : Type 1} → statement M
 write-front-spec =

@@ -1,6 +1,6 @@
 -- `codebook_text::line::all_digits` meets its contract: the bytes passed are digits, so the test goes by those to come. Assumes nothing.
-use mathlib.Core.Path.{_≡_, refl}
-use mathlib.Core.Bool.{true, false, _&&_}
+use mathlib.Core.Path.{_≡_, sym, ap, _∙_}
+use mathlib.Core.Bool.{Bool, true, false, _&&_}
 use Prim.Native.Nat.{_+_, _-_, _≤_, _<_}
 use native.Mathlib.Omega.{arith}
 use lib.ListN.{length, drop, getD}
@@ -31,9 +31,8 @@ returns c =
     let L = c .before .before .before .before .loop in
     let s = c .before .before .before .before .before .before .args .digits .now in
     let h : L .i < length s = omega arith in
-    let f : isDigit (getD s (L .i) 0) ≡ false = cc (not-true (c .before .is-digit .result) (c .if1 .taken)) in
-    let d : isDigit (getD s (L .i) 0) && allDigits (drop (L .i + 1) s) ≡ false = rw f refl in
-    cc (digits-step s (L .i) h)
+    let f : isDigit (getD s (L .i) 0) ≡ false = sym (c .before .is-digit .ensures) ∙ not-true (c .before .is-digit .result) (c .if1 .taken) in
+    sym (L .inv .2 ∙ digits-step s (L .i) h ∙ ap (λ (b : Bool). b && allDigits (drop (L .i + 1) s)) f)
 
 add-i : tie.Need-add-i Inv-loop μ-loop
 add-i c = omega arith
@@ -46,15 +45,14 @@ loop-again c =
     let L = c .before .before .before .before .loop in
     let s = c .before .before .before .before .before .before .args .digits .now in
     let h : L .i < length s = omega arith in
-    let f : isDigit (getD s (L .i) 0) ≡ true = cc (not-false (c .before .is-digit .result) (c .if1 .left)) in
-    let d : isDigit (getD s (L .i) 0) && allDigits (drop (L .i + 1) s) ≡ allDigits (drop (L .i + 1) s) = rw f refl in
-    (omega arith, omega arith, cc (digits-step s (L .i) h))
+    let f : isDigit (getD s (L .i) 0) ≡ true = sym (c .before .is-digit .ensures) ∙ not-false (c .before .is-digit .result) (c .if1 .left) in
+    (omega arith, omega arith, L .inv .2 ∙ digits-step s (L .i) h ∙ ap (λ (b : Bool). b && allDigits (drop (L .i + 1) s)) f)
 
 returns-2 : tie.Need-returns-2 Inv-loop μ-loop
 returns-2 c =
+    let L = c .before .loop in
     let s = c .before .before .before .args .digits .now in
-    let h : length s ≤ c .before .loop .i = omega arith in
-    cc (digits-out s (c .before .loop .i) h)
+    sym (L .inv .2 ∙ digits-out s (L .i) (omega arith))
 
 pub all-digits-spec : {M : Type 1} → statement M
 all-digits-spec =

@@ -1,4 +1,8 @@
 -- `codebook_text::line::is_magnitude` meets its contract: the three tests of the definition. Assumes nothing.
+use mathlib.Core.Path.{ap}
+use mathlib.Core.Bool.{Bool, _&&_}
+use lib.Dec.{leb}
+use lib.ListN.{length}
 use Rattle.codebook_text.specs.Text.{isMagnitude}
 use borrow.Author.Needs.{needs}
 use Rattle.codebook_text.proofs.line.is_magnitude.Statement.{statement}
@@ -9,7 +13,9 @@ all-digits-requires c κs = search needs
 
 returns : tie.Need-returns
 unfolding isMagnitude
-returns c = cc
+returns c =
+    let n = length (c .before .before .args .digits .now) in
+    ap (λ (b : Bool). leb 1 n && leb n 10 && b) (c .all-digits .ensures)
 
 pub is-magnitude-spec : {M : Type 1} → statement M
 is-magnitude-spec = tie.close (tie.spec all-digits-requires returns)

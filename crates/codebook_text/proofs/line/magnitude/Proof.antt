@@ -1,5 +1,5 @@
 -- `codebook_text::line::magnitude` meets its contract: the value so far and the digits to come write the value of all. Assumes nothing.
-use mathlib.Core.Path.{_≡_, refl}
+use mathlib.Core.Path.{_≡_, refl, sym, _∙_}
 use Prim.Native.Nat.{_-_, _^_, _≤_, _<_}
 use native.Mathlib.Omega.{arith}
 use lib.ListN.{length, drop, getD}
@@ -57,7 +57,7 @@ loop-again c =
     let s = c .before .before .before .args .digits .now in
     let h : L .i < length s = omega arith in
     let d : getD s (L .i) 0 - 48 ≤ 9 = omega (arith, digit c) in
-    (omega arith, omega arith, value-lt (L .value) _ (L .i) (L .inv .2) d, cc (value-step s (L .i) h (L .value)))
+    (omega arith, omega arith, value-lt (L .value) _ (L .i) (L .inv .2) d, L .inv .3 ∙ value-step s (L .i) h (L .value))
 
 returns : tie.Need-returns Inv-loop μ-loop
 returns c =
@@ -65,7 +65,7 @@ returns c =
     let s = c .before .before .args .digits .now in
     let m = magnitude-parts s (c .before .before .pre) in
     let h : length s ≤ L .i = omega arith in
-    (cc (value-out s (L .i) (L .value) h), value-fits (L .value) (L .i) (L .inv .2) (omega arith))
+    (sym (L .inv .3 ∙ value-out s (L .i) (L .value) h), value-fits (L .value) (L .i) (L .inv .2) (omega arith))
 
 pub magnitude-spec : {M : Type 1} → statement M
 magnitude-spec =

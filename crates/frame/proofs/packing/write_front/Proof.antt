@@ -1,12 +1,11 @@
 -- `frame::packing::write_front` meets its contract: after i turns the first i bytes are in front. Assumes nothing.
-use mathlib.Core.Path.{_≡_}
-use mathlib.Core.List.{_++_}
-use Prim.Native.Nat.{_-_, _≤_, _<_}
+use mathlib.Core.Path.{_≡_, ap, _∙_}
+use mathlib.Core.List.{List, _++_}
+use Prim.Native.Nat.{ℕ, _-_, _≤_, _<_}
 use native.Mathlib.Omega.{arith}
-use lib.ListN.{length, take, drop}
-use lib.Seq.{take-all}
+use lib.ListN.{length, getD, take, drop, set}
 use borrow.Author.Needs.{needs}
-use Rattle.frame.proofs.Front.{front-more}
+use Rattle.bits.proofs.Front.{front-more, front-all}
 use Rattle.frame.proofs.packing.write_front.Statement.{statement}
 use Rattle.frame.proofs.packing.write_front.Tie as tie
 
@@ -38,17 +37,16 @@ loop-again c =
     let o = c .before .before .args .out .now in
     let h : L .i < length o = omega arith in
     let m : L .i < length f = omega arith in
-    (search needs, search needs, cc (front-more f o (L .i) 0 h m), search needs)
+    (search needs, search needs, ap (λ (t : List ℕ). set t (L .i) (getD f (L .i) 0)) (L .inv .2) ∙ front-more f o (L .i) 0 h m, search needs)
 
 same-length : tie.Need-same-length Inv-loop μ-loop
 same-length c = search needs
 
 returns : tie.Need-returns Inv-loop μ-loop
 returns c =
-    let f = c .before .before .args .t2 in
-    let e : c .before .loop .i ≡ 7 = omega arith in
-    let m : length f ≤ 7 = omega arith in
-    cc (take-all 7 f m)
+    let L = c .before .loop in
+    let s = c .before .before .args in
+    front-all (s .t2) (s .out .now) (L .out) (L .i) 7 (L .inv .2) (omega arith) (omega arith)
 
 pub write-front-spec : {M : Type 1} → statement M
 write-front-spec = tie.close (tie.spec Inv-loop μ-loop loop-holds array-read-out slice-write-out add-i loop-less loop-again same-length returns)

@@ -1,7 +1,6 @@
 -- `frame::word::four_words` meets its contract: the parts are joined from the first on. Assumes nothing.
-use mathlib.Core.Path.{sym}
+use mathlib.Core.Path.{sym, _∙_}
 use native.Mathlib.Omega.{arith}
-use borrow.Author.Needs.{needs}
 use Rattle.frame.proofs.Numbers.{words-value}
 use Rattle.frame.proofs.word.four_words.Statement.{statement}
 use Rattle.frame.proofs.word.four_words.Tie as tie
@@ -36,46 +35,18 @@ mul-d-2 c = omega arith
 add-d-2 : tie.Need-add-d-2
 add-d-2 c = omega arith
 
-cast-result : tie.Need-cast-result
-cast-result c = omega arith
-
-mul-result : tie.Need-mul-result
-mul-result c = omega arith
-
-cast-result-2 : tie.Need-cast-result-2
-cast-result-2 c = omega arith
-
-add-result : tie.Need-add-result
-add-result c = omega arith
-
-mul-result-2 : tie.Need-mul-result-2
-mul-result-2 c = omega arith
-
-cast-result-3 : tie.Need-cast-result-3
-cast-result-3 c = omega arith
-
-add-result-2 : tie.Need-add-result-2
-add-result-2 c = omega arith
-
-mul-result-3 : tie.Need-mul-result-3
-mul-result-3 c = omega arith
-
-cast-result-4 : tie.Need-cast-result-4
-cast-result-4 c = omega arith
-
-add-result-3 : tie.Need-add-result-3
-add-result-3 c = omega arith
+joined-requires : tie.Need-joined-requires
+joined-requires c κs = (omega arith, omega arith, omega arith)
 
 returns : tie.Need-returns
 returns c =
-    let s = c .before .before .before .before .before in
+    let s = c .before .before .before .before .before .before in
     let a = s .args in (
-      sym (words-value (a .x) (s .pre .0 .0) (s .pre .0 .1) (s .pre .0 .2) (a .pa) (a .pb) (a .pc) (a .pd) (s .pre .1 .0) (s .pre .1 .1)
+      c .joined .ensures .0 ∙ sym (words-value (a .x) (s .pre .0 .0) (s .pre .0 .1) (s .pre .0 .2) (a .pa) (a .pb) (a .pc) (a .pd) (s .pre .1 .0) (s .pre .1 .1)
           (s .pre .1 .2) (s .pre .1 .3)),
-      search needs,
+      c .joined .ensures .1,
     )
 
 pub four-words-spec : {M : Type 1} → statement M
 four-words-spec =
-    tie.close (tie.spec mul-a add-a mul-b add-b mul-c add-c mul-d add-d mul-d-2 add-d-2 cast-result mul-result cast-result-2 add-result mul-result-2
-    cast-result-3 add-result-2 mul-result-3 cast-result-4 add-result-3 returns)
+    tie.close (tie.spec mul-a add-a mul-b add-b mul-c add-c mul-d add-d mul-d-2 add-d-2 joined-requires returns)

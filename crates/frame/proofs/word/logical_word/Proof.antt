@@ -7,11 +7,11 @@ use Rattle.bits.specs.Bits.{value, bits}
 use Rattle.bits.proofs.Every.{T-true, and-left, and-right}
 use Rattle.pitch.specs.Pitch.{codeOf}
 use Rattle.pitch.proofs.Codes.{code-lt}
-use Rattle.frame.specs.Sets.{indicesFit, voicingFits, sendable}
+use Rattle.sets.specs.Sets.{indicesFit, voicingFits, sendable}
 use Rattle.frame.specs.Layout.{unvoicedWords, voicedWords, others, logical}
-use Rattle.frame.specs.declared.ParameterSet.{ParameterSet}
-use Rattle.frame.specs.declared.ParameterSet.the-variants.{Voiced}
-use Rattle.frame.proofs.Ranges.{IndexRanges, VoicingRanges, index-ranges, voicing-ranges, sendable-fits}
+use Rattle.sets.specs.declared.ParameterSet.{ParameterSet}
+use Rattle.sets.specs.declared.ParameterSet.the-variants.{Voiced}
+use Rattle.sets.proofs.Ranges.{IndexRanges, VoicingRanges, index-ranges, voicing-ranges, sendable-fits}
 use Rattle.frame.proofs.Numbers.{logical-value}
 use borrow.Author.Needs.{needs}
 use Rattle.frame.proofs.word.logical_word.Statement.{statement}

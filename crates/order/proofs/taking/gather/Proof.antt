@@ -1,44 +1,40 @@
--- `order::taking::gather` meets its contract: after j turns the first j logical bits are gathered. Assumes nothing.
+-- `order::taking::gather` meets its contract: after a turns the first 6 × a logical bits are gathered. Assumes nothing.
 use mathlib.Core.Path.{_≡_, refl, ap, _∙_}
 use mathlib.Core.Bool.{Bool}
-use Prim.Native.Nat.{ℕ, _-_, _≤_}
+use Prim.Native.Nat.{ℕ, _+_, _*_, _-_, _^_, _≤_, _<_}
 use native.Mathlib.Omega.{arith}
 use borrow.Author.Needs.{needs}
 use Rattle.bits.specs.Bits.{value, cut}
 use Rattle.order.specs.Order.{defaultOrder, placeOf}
 use Rattle.order.specs.Word.{wordBit}
-use Rattle.order.proofs.Words.{gather-more, gather-lt}
+use Rattle.order.proofs.Words.{group-more, gather-lt}
 use Rattle.order.proofs.taking.gather.Statement.{statement}
 use Rattle.order.proofs.taking.gather.Tie as tie
 
 -- each logical bit
-abbrev bitOf : ℕ → ℕ → Bool
-bitOf placed j = wordBit 56 placed (placeOf defaultOrder j)
+abbrev at : ℕ → ℕ → Bool
+at placed j = wordBit 56 placed (placeOf defaultOrder j)
 
 abbrev Inv-loop : tie.InvT-loop
-Inv-loop placed word₀ j₀ word j = (j ≤ 54) × (word ≡ value (cut (bitOf placed) 0 j))
+Inv-loop placed x₀ a₀ x a = (a ≤ 9) × (x ≡ value (cut (at placed) 0 (6 * a))) × (x < 2 ^ 54)
 
 abbrev μ-loop : tie.MeasureT-loop
-μ-loop placed word₀ j₀ word j = 54 - j
+μ-loop placed x₀ a₀ x a = 9 - a
 
 loop-holds : tie.Need-loop-holds Inv-loop μ-loop
-loop-holds c = (search needs, refl)
+loop-holds c = (search needs, refl, search needs)
 
 mul-word : tie.Need-mul-word Inv-loop μ-loop
-mul-word c =
-    let L = c .before .loop in
-    omega (arith, gather-lt (bitOf (c .before .before .args .placed)) (L .j) (L .word) (L .inv .0) (L .inv .1))
+mul-word c = omega arith
 
-bit-from-requires : tie.Need-bit-from-requires Inv-loop μ-loop
-bit-from-requires c κs = omega arith
+six-from-requires : tie.Need-six-from-requires Inv-loop μ-loop
+six-from-requires c κs = omega arith
 
 add-word : tie.Need-add-word Inv-loop μ-loop
-add-word c =
-    let L = c .before .before .loop in
-    omega (arith, gather-lt (bitOf (c .before .before .before .args .placed)) (L .j) (L .word) (L .inv .0) (L .inv .1))
+add-word c = omega arith
 
-add-j : tie.Need-add-j Inv-loop μ-loop
-add-j c = omega arith
+add-a : tie.Need-add-a Inv-loop μ-loop
+add-a c = omega arith
 
 loop-less : tie.Need-loop-less Inv-loop μ-loop
 loop-less c = omega arith
@@ -46,13 +42,16 @@ loop-less c = omega arith
 loop-again : tie.Need-loop-again Inv-loop μ-loop
 loop-again c =
     let L = c .before .before .loop in
-    (search needs, gather-more (bitOf (c .before .before .before .args .placed)) (L .j) (L .word) (c .bit-from .result) (L .inv .1) (c .bit-from .ensures .0))
+    let h = at (c .before .before .before .args .placed) in
+    let six = c .six-from .result in
+    let more = group-more h 6 (L .a) (L .word) six (L .inv .1) (c .six-from .ensures .0) in
+    (omega arith, more, gather-lt h 0 (6 * (L .a + 1)) 54 (L .word * 64 + six) (omega arith) more)
 
 returns : tie.Need-returns Inv-loop μ-loop
 returns c =
     let L = c .before .loop in
-    let e : L .j ≡ 54 = omega arith in
-    L .inv .1 ∙ ap (λ (k : ℕ). value (cut (bitOf (c .before .before .args .placed)) 0 k)) e
+    let e : 6 * L .a ≡ 54 = omega arith in
+    L .inv .1 ∙ ap (λ (k : ℕ). value (cut (at (c .before .before .args .placed)) 0 k)) e
 
 pub gather-spec : {M : Type 1} → statement M
-gather-spec = tie.close (tie.spec Inv-loop μ-loop loop-holds mul-word bit-from-requires add-word add-j loop-less loop-again returns)
+gather-spec = tie.close (tie.spec Inv-loop μ-loop loop-holds mul-word six-from-requires add-word add-a loop-less loop-again returns)

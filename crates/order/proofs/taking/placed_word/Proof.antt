@@ -6,7 +6,8 @@ use lib.ListN.{length, getD}
 use borrow.Author.Needs.{needs}
 use Rattle.bits.specs.Bits.{value, cut}
 use Rattle.order.specs.Order.{bitAt}
-use Rattle.order.proofs.Answers.{byte-more, bytes-lt}
+use Rattle.order.proofs.Answers.{byte-more}
+use Rattle.order.proofs.Words.{gather-lt}
 use Rattle.order.proofs.taking.placed_word.Statement.{statement}
 use Rattle.order.proofs.taking.placed_word.Tie as tie
 
@@ -22,7 +23,7 @@ loop-holds c = (search needs, refl, c .pre)
 mul-placed : tie.Need-mul-placed Inv-loop μ-loop
 mul-placed c =
     let L = c .before .loop in
-    omega (arith, bytes-lt (c .before .before .args .frame .now) (L .i) (L .placed) (omega arith) (L .inv .1))
+    omega (arith, gather-lt (bitAt (c .before .before .args .frame .now)) 0 (8 * L .i) 48 (L .placed) (omega arith) (L .inv .1))
 
 shared-slice-read-placed : tie.Need-shared-slice-read-placed Inv-loop μ-loop
 shared-slice-read-placed c = omega arith
@@ -35,7 +36,7 @@ add-placed c =
     let L = c .before .before .loop in
     omega (
       arith,
-      bytes-lt (c .before .before .before .args .frame .now) (L .i) (L .placed) (omega arith) (L .inv .1),
+      gather-lt (bitAt (c .before .before .before .args .frame .now)) 0 (8 * L .i) 48 (L .placed) (omega arith) (L .inv .1),
       c .shared-slice-known .given (L .i),
     )
 

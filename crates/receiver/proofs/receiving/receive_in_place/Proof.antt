@@ -46,10 +46,10 @@ use denote.Triple.Walked.{says, Stays, stay-ref, stay-none-slice, walkOf, goes-r
 use denote.Exit.{yes}
 use Rattle.order.specs.Order.{defaultOrder}
 use Rattle.receiver.specs.Receiving.{receive}
-use Rattle.receiver.specs.declared.Record.{Record}
+use Rattle.records.specs.declared.Record.{Record}
 use Rattle.receiver.specs.declared.Received.{Received}
-use Rattle.receiver.proofs.Record as rec
-use Rattle.receiver.proofs.Record.Laws as rec-laws
+use Rattle.records.proofs.Record as rec
+use Rattle.records.proofs.Record.Laws as rec-laws
 use Rattle.receiver.proofs.Received as got
 use Rattle.receiver.proofs.Received.Laws as got-laws
 use Rattle.receiver.proofs.ReceiveAnswer as ans

@@ -1,0 +1,56 @@
+-- `frame::unpacking::read` meets its contract: each class goes its way. Assumes nothing.
+use mathlib.Core.Path.{_≡_, sym, ap, _∙_}
+use Prim.Native.Nat.{ℕ}
+use Rattle.pitch.specs.Pitch.{classOf}
+use Rattle.pitch.specs.declared.PitchClass.{PitchClass}
+use Rattle.order.specs.Word.{wordBit}
+use Rattle.reading.specs.Reads.{byClass, read}
+use Rattle.reading.proofs.Cuts.{bits-back}
+use borrow.Author.Needs.{needs}
+use Rattle.reading.proofs.unpacking.read.Statement.{statement}
+use Rattle.reading.proofs.unpacking.read.Tie as tie
+
+part-requires : tie.Need-part-requires
+part-requires c κs = search needs
+
+class-of-requires : tie.Need-class-of-requires
+class-of-requires c κs = search needs
+
+enum-told : tie.Need-enum-told
+enum-told c = search needs
+
+unvoiced-requires : tie.Need-unvoiced-requires
+unvoiced-requires c κs = search needs
+
+enum-told-2 : tie.Need-enum-told-2
+enum-told-2 c = search needs
+
+enum-known-class : tie.Need-enum-known-class
+enum-known-class c = search needs
+
+voiced-requires : tie.Need-voiced-requires
+voiced-requires c κs = search needs
+
+abbrev word : tie.After-class-of → ℕ
+word c = c .before .before .args .word
+
+-- the class that the call gives is that of the pitch bits
+by-class : (c : tie.After-class-of) (k : PitchClass) → c .class-of .result ≡ k → byClass (wordBit 54 (word c)) k ≡ read (wordBit 54 (word c))
+unfolding read
+by-class c k e =
+    let g = wordBit 54 (word c) in
+    ap (byClass g) (sym e ∙ c .class-of .ensures ∙ ap classOf (bits-back g 28 7 _ (c .before .part .ensures .0)))
+
+returns : tie.Need-returns
+returns c = c .unvoiced .ensures ∙ by-class (c .before .before .before) _ (c .before .enum-told .given .1)
+
+returns-2 : tie.Need-returns-2
+returns-2 c = by-class (c .before .before) _ (c .enum-told2 .given .1)
+
+returns-3 : tie.Need-returns-3
+returns-3 c = c .voiced .ensures ∙ by-class (c .before .before .before .before) _ (c .before .before .class .given .1)
+
+pub read-spec : {M : Type 1} → statement M
+read-spec =
+    tie.close
+    (tie.spec part-requires class-of-requires enum-told unvoiced-requires enum-told-2 enum-known-class voiced-requires returns returns-2 returns-3)
