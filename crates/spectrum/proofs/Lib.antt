@@ -1,6 +1,4 @@
 pub mod Refusals
 pub mod Owed
-pub mod Sizes
-pub mod Digits
-pub mod Appending
+pub mod Printed
 pub mod LongFiles

@@ -4,7 +4,7 @@ use mathlib.Core.List.{List}
 use Prim.Native.Nat.{ℕ, zero, suc}
 use lib.IntN.{ℤ}
 use lib.ListN.{length}
-use Rattle.frame.specs.declared.ParameterSet.{ParameterSet}
+use Rattle.sets.specs.declared.ParameterSet.{ParameterSet}
 use Rattle.receiver.specs.Receiving.{firstRefusal}
 use Rattle.codebook.specs.Values.{lsfRefusal, lsfAnswer, lsfWrites, magnitudesRefusal, magnitudesAnswer, magnitudesWrites}
 use Rattle.codebook.specs.declared.ValuesAnswer.{ValuesAnswer}

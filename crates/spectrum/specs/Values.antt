@@ -5,8 +5,8 @@ use mathlib.Core.List.{List}
 use lib.ListN.{replicate}
 use lib.IntN.{ℤ, pos}
 use Rattle.order.specs.Order.{defaultOrder}
-use Rattle.frame.specs.declared.ParameterSet.{ParameterSet}
-use Rattle.receiver.specs.Records.{fresh}
+use Rattle.sets.specs.declared.ParameterSet.{ParameterSet}
+use Rattle.records.specs.Records.{fresh}
 use Rattle.receiver.specs.Receiving.{receive, firstRefusal}
 use Rattle.receiver.specs.declared.ReceiveAnswer.{ReceiveAnswer}
 use Rattle.receiver.specs.declared.ReceiveAnswer.the-variants.{Result, Refused}

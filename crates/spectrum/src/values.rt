@@ -1,8 +1,8 @@
 // The values of a frame, by the texts of two codebooks.
 use codebook::ValuesAnswer;
 use codebook_text::TextAnswer;
-use frame::ParameterSet;
 use receiver::ReceiveAnswer;
+use sets::ParameterSet;
 ghost use mathlib.Core.Path.{_≡_};
 ghost use Rattle.receiver.specs.Receiving.{firstRefusal};
 ghost use Rattle.spectrum.specs.Values.{refused, ofCodebooks, ofTexts, ofFrame, textNumber, valuesNumber};
@@ -19,7 +19,7 @@ pub(crate) struct Spectrum {
 pub(crate) fn of_frame(bytes: &[u8], lsf: &[u8], magnitudes: &[u8]) -> Spectrum
     ensures { λ r. ⌜ r ≡ ofFrame (now (bytes .entry)) (now (lsf .entry)) (now (magnitudes .entry)) ⌝ }
 {
-    let received = receiver::receive(receiver::fresh(), bytes);
+    let received = receiver::receive(records::fresh(), bytes);
     let answer = received.answer;
     match answer {
         ReceiveAnswer::Refused(n) => refused(n),

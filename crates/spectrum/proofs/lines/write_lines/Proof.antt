@@ -8,8 +8,11 @@ use lib.ListN.{length, getD, take}
 use lib.Seq.{take-all}
 use lib.IntN.{pos}
 use Rattle.codebook.proofs.Sizes.{back}
-use Rattle.spectrum.specs.Lines.{line, lines, Appended}
-use Rattle.spectrum.proofs.Appending.{appended-none, appended-more, lines-more}
+use Rattle.spectrum.specs.Lines.{lines}
+use Rattle.report.specs.Lines.{valueLine}
+use Rattle.report.specs.Placing.{Appended}
+use Rattle.report.proofs.Appending.{appended-none, appended-more}
+use Rattle.spectrum.proofs.Printed.{lines-more}
 use borrow.Author.Needs.{needs}
 use Rattle.spectrum.proofs.lines.write_lines.Statement.{statement}
 use Rattle.spectrum.proofs.lines.write_lines.Tie as tie
@@ -48,9 +51,9 @@ loop-again c =
     let s = l .before .before .args in
     let x = getD (s .t1) (L .i) (pos 0) in
     let h : L .i < length (s .t1) = omega arith in
-    let e : Appended (L .out) (L .end) (line x) (w .write-line .last .1 .0) (w .write-line .result) =
+    let e : Appended (L .out) (L .end) (valueLine x) (w .write-line .last .1 .0) (w .write-line .result) =
     rw (back x (w .before .before .write-line-arg .given)) at (w .write-line .ensures .0) in
-    let m : lines (take (L .i + 1) (s .t1)) ≡ lines (take (L .i) (s .t1)) ++ line x = rw add-one (lines-more (s .t1) (L .i) (pos 0) h) in
+    let m : lines (take (L .i + 1) (s .t1)) ≡ lines (take (L .i) (s .t1)) ++ valueLine x = rw add-one (lines-more (s .t1) (L .i) (pos 0) h) in
     let b = w .write-line .ensures .1 in
     (omega arith, L .inv .1, search needs, omega (arith, b), rw m (appended-more _ _ _ _ _ _ _ _ (L .inv .4) e))
 

@@ -3,23 +3,31 @@ use mathlib.Core.Path.{_∙_}
 use native.Mathlib.Omega.{arith}
 use borrow.Author.Needs.{needs}
 use Rattle.spectrum.specs.Lines.{lines}
-use Rattle.spectrum.proofs.Appending.{appended-more, text-refused, text-values, counted}
+use Rattle.report.specs.Lines.{refusalLine}
+use Rattle.report.proofs.Appending.{appended-more}
+use Rattle.report.proofs.Added.{line-added}
+use Rattle.spectrum.proofs.Printed.{text-refused, text-values, counted}
 use Rattle.spectrum.proofs.lines.write_text.Statement.{statement}
 use Rattle.spectrum.proofs.lines.write_text.Tie as tie
 
-write-refusal-requires : tie.Need-write-refusal-requires
-write-refusal-requires c κs = search needs
+refusal-line-requires : tie.Need-refusal-line-requires
+refusal-line-requires c κs = search needs
+
+end-of-requires : tie.Need-end-of-requires
+end-of-requires c κs = search needs
 
 same-length : tie.Need-same-length
 same-length c = search needs
 
 returns : tie.Need-returns
 returns c =
-    let w = c .before .before in
+    let w = c .before .before .before in
     let t = w .before .before in
-    let s = t .before .before .before .args .spectrum in (
-      w .write-refusal .ensures .0 ∙ text-refused (s .refusal) (s .lsf) (s .magnitudes) (t .if1 .taken),
-      counted _ _ (omega (arith, w .write-refusal .ensures .1)),
+    let a = t .before .before .before in
+    let s = a .args .spectrum in
+    let q = line-added (refusalLine (s .refusal)) (a .args .out .now) _ 0 22 _ _ (w .refusal-line .ensures) (c .end-of .ensures) (omega (arith, a .pre)) in (
+      q .0 .1 ∙ text-refused (s .refusal) (s .lsf) (s .magnitudes) (t .if1 .taken),
+      counted _ _ (omega (arith, q .1)),
     )
 
 write-lines-requires : tie.Need-write-lines-requires
@@ -45,4 +53,4 @@ returns-2 c =
 
 pub write-text-spec : {M : Type 1} → statement M
 write-text-spec =
-    tie.close (tie.spec write-refusal-requires same-length returns write-lines-requires write-lines-requires-2 same-length-2 returns-2)
+    tie.close (tie.spec refusal-line-requires end-of-requires same-length returns write-lines-requires write-lines-requires-2 same-length-2 returns-2)

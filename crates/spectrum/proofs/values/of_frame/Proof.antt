@@ -2,9 +2,9 @@
 use mathlib.Core.Path.{_≡_, sym, ap, _∙_}
 use borrow.Author.Needs.{needs}
 use Rattle.order.specs.Order.{defaultOrder}
-use Rattle.receiver.specs.Records.{fresh}
+use Rattle.records.specs.Records.{fresh}
 use Rattle.receiver.specs.Receiving.{receive}
-use Rattle.receiver.specs.declared.Record.{Record}
+use Rattle.records.specs.declared.Record.{Record}
 use Rattle.receiver.specs.declared.ReceiveAnswer.{ReceiveAnswer}
 use Rattle.receiver.specs.declared.Received.{Received}
 use Rattle.spectrum.specs.Values.{ofAnswer, ofFrame}

@@ -1,0 +1,7 @@
+pub mod Appending
+pub mod Decimals
+pub mod Pairs
+pub mod Rooms
+pub mod Added
+pub mod Sizes
+pub mod Signs

@@ -1,0 +1,27 @@
+-- A number's last two digits after those of its hundreds: the room for both, and the text that they make. Assumes nothing.
+use mathlib.Core.Path.{_≡_}
+use mathlib.Core.List.{List, [], _∷_}
+use Prim.Native.Nat.{ℕ, _+_, _/_, _%_, _≤_}
+use lib.ListN.{length}
+use Rattle.report.specs.Text.{glyph, decimal}
+use Rattle.report.specs.Placing.{Appended}
+use Rattle.report.proofs.Decimals.{decimal-pairs}
+use Rattle.report.proofs.Appending.{appended-more, first-fits, rest-fits}
+
+-- the last two digits
+abbrev pair : ℕ → List ℕ
+pair n = glyph (n / 10 % 10) ∷ glyph (n % 10) ∷ []
+
+module _ (n : ℕ) (many : 100 ≤ n) (at room : ℕ) where
+  -- room for the hundreds
+  pub hundreds-fit : at + length (decimal n) ≤ room → at + length (decimal (n / 100)) ≤ room
+  hundreds-fit h = first-fits (decimal (n / 100)) (pair n) at room (rw (decimal-pairs n many) at h)
+
+  -- and for the two digits after them
+  pub pair-fits : (end : ℕ) → at + length (decimal n) ≤ room → end ≡ at + length (decimal (n / 100)) → end + 2 ≤ room
+  pair-fits end h e = rest-fits (decimal (n / 100)) (pair n) at end room (rw (decimal-pairs n many) at h) e
+
+-- both are the number
+pub pairs-appended : (n : ℕ) (a b c : List ℕ) (at m r : ℕ) → 100 ≤ n → Appended a at (decimal (n / 100)) b m → Appended b m (pair n) c r
+    → Appended a at (decimal n) c r
+pairs-appended n a b c at m r many h k = rw (decimal-pairs n many) (appended-more a b c at m r (decimal (n / 100)) (pair n) h k)

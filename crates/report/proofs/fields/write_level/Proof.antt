@@ -1,0 +1,25 @@
+-- `report::fields::write_level` meets its contract: such a number has at most ten digits. Assumes nothing.
+use native.Mathlib.Omega.{arith}
+use lib.ListN.{length-append}
+use Rattle.report.specs.Text.{decimal}
+use Rattle.report.proofs.Decimals.{decimal-length}
+use borrow.Author.Needs.{needs}
+use Rattle.report.proofs.fields.write_level.Statement.{statement}
+use Rattle.report.proofs.fields.write_level.Tie as tie
+
+write-number-requires : tie.Need-write-number-requires
+write-number-requires c κs =
+    let a = c .before .before .before .args in
+    omega (arith, decimal-length 9 (a .n) (omega arith), length-append (a .name .now) (decimal (a .n)))
+
+same-length : tie.Need-same-length
+same-length c = search needs
+
+returns : tie.Need-returns
+returns c =
+    let w = c .before .before in
+    let a = w .before .before .before .before .args in
+    (w .write-number .ensures, omega (arith, w .write-number .ensures .0, decimal-length 9 (a .n) (omega arith), length-append (a .name .now) (decimal (a .n))))
+
+pub write-level-spec : {M : Type 1} → statement M
+write-level-spec = tie.close (tie.spec write-number-requires same-length returns)

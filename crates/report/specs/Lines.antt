@@ -1,0 +1,71 @@
+-- Document 01, "Program hear": its lines. And the lines of a value and of a refusal, as "LSF and magnitude values" has them printed.
+use Prim.Native.Nat.{ℕ}
+use mathlib.Core.List.{List, _++_}
+use lib.IntN.{ℤ}
+use Rattle.sets.specs.declared.Indices.{Indices}
+use Rattle.sets.specs.declared.ParameterSet.{ParameterSet}
+use Rattle.sets.specs.declared.ParameterSet.the-variants.{Unvoiced, Voiced}
+use Rattle.receiver.specs.declared.FrameResult.{FrameResult}
+use Rattle.receiver.specs.declared.Kind.{Kind}
+use Rattle.receiver.specs.declared.Kind.the-variants.{Repeat}
+use Rattle.receiver.specs.declared.Kind.the-variants.{Unvoiced as Kind·Unvoiced, Voiced as Kind·Voiced}
+use Rattle.receiver.specs.declared.ReceiveAnswer.{ReceiveAnswer}
+use Rattle.receiver.specs.declared.ReceiveAnswer.the-variants.{Result, Refused}
+use Rattle.report.specs.Text.{ascii, decimal, signed, flag, field}
+
+-- the first line: the grains in a dB, and the order of the bits
+abbrev pub firstLine : List ℕ
+firstLine = ascii "grain=186 order=house\n"
+
+-- the letter of a kind
+abbrev pub letter : Kind → List ℕ
+letter Kind·Unvoiced = ascii "U"
+letter Kind·Voiced = ascii "V"
+letter Repeat = ascii "R"
+
+-- the four LSF indices
+unfoldable pub lsfText : Indices → List ℕ
+lsfText x = field " lsf=" (decimal (x .l1)) ++ field "," (decimal (x .l2)) ++ field "," (decimal (x .l3)) ++ field "," (decimal (x .l4))
+
+-- a set; what an unvoiced one lacks is a dash
+unfoldable pub setText : ParameterSet → List ℕ
+setText (Unvoiced x) = ascii " pitch=-" ++ lsfText x ++ ascii " bp=- fm=- ap=-"
+setText (Voiced x v) =
+    field " pitch=" (decimal (v .pitch))
+    ++ lsfText x
+    ++ field " bp=" (decimal (v .bandpass))
+    ++ field " fm=" (decimal (v .fourier))
+    ++ field " ap=" (decimal (v .aperiodic))
+
+-- a result: kind, set and levels
+unfoldable pub soundText : FrameResult → List ℕ
+soundText r =
+    field " kind=" (letter (r .kind)) ++ setText (r .set) ++ field " g1=" (decimal (r .first)) ++ field " g2=" (decimal (r .second))
+
+-- then sync bit, repaired count and mute
+unfoldable pub notesText : FrameResult → List ℕ
+notesText r = field " sync=" (flag (r .sync)) ++ field " fixed=" (decimal (r .repaired)) ++ field " mute=" (flag (r .mute))
+
+unfoldable pub resultText : FrameResult → List ℕ
+resultText r = soundText r ++ notesText r
+
+-- what a frame was answered
+abbrev pub answerText : ReceiveAnswer → List ℕ
+answerText (Result r) = resultText r
+answerText (Refused n) = field " refused=" (decimal n)
+
+-- the line of frame k
+unfoldable pub frameLine : ℕ → ReceiveAnswer → List ℕ
+frameLine k answer = field "frame=" (decimal k) ++ answerText answer ++ ascii "\n"
+
+-- the last line: how many frames, how many of them repeats, how many bytes after the last whole frame
+unfoldable pub lastLine : ℕ → ℕ → ℕ → List ℕ
+lastLine frames repeats left = field "frames=" (decimal frames) ++ field " repeats=" (decimal repeats) ++ field " left=" (decimal left) ++ ascii "\n"
+
+-- the line of a value
+unfoldable pub valueLine : ℤ → List ℕ
+valueLine x = signed x ++ ascii "\n"
+
+-- the line of a refusal, where nothing else is printed
+unfoldable pub refusalLine : ℕ → List ℕ
+refusalLine n = field "refused=" (decimal n) ++ ascii "\n"

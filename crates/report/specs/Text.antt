@@ -1,0 +1,44 @@
+-- How the programs spell words and numbers, in bytes of ASCII. Helpers of document 01's "Program hear" and of the values that it has printed.
+use Prim.Native.Nat.{ℕ, zero, suc, _+_, _/_, _%_}
+use Prim.Native.Char.{code}
+use Prim.Native.String.{String, [] as none, _∷_ as _then_}
+use mathlib.Core.Bool.{Bool, true, false, cond}
+use mathlib.Core.List.{List, [], _∷_, _++_}
+use lib.Dec.{ltb}
+use lib.IntN.{ℤ, pos, negsuc, natAbs}
+
+-- the bytes of a word
+abbrev pub ascii : String → List ℕ
+ascii none = []
+ascii (c then s) = code c ∷ ascii s
+
+-- the byte of a digit: 48 is `0`
+abbrev pub glyph : ℕ → ℕ
+glyph d = 48 + d
+
+-- the decimal digits of a number, at most k of them
+unfoldable pub digits : ℕ → ℕ → List ℕ
+digits zero n = []
+digits (suc k) n = cond (ltb n 10) (glyph n ∷ []) (digits k (n / 10) ++ (glyph (n % 10) ∷ []))
+
+-- a number in decimal, with no zero in front of another digit; it has fewer digits than its value, but for one digit of 0
+unfoldable pub decimal : ℕ → List ℕ
+decimal n = digits (suc n) n
+
+-- a minus before a negative number
+abbrev pub sign : ℤ → List ℕ
+sign (pos n) = []
+sign (negsuc n) = ascii "-"
+
+-- a whole number
+abbrev pub signed : ℤ → List ℕ
+signed x = sign x ++ decimal (natAbs x)
+
+-- a bit
+abbrev pub flag : Bool → List ℕ
+flag true = ascii "1"
+flag false = ascii "0"
+
+-- a name with what is said of it
+abbrev pub field : String → List ℕ → List ℕ
+field name text = ascii name ++ text

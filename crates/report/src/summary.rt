@@ -1,0 +1,32 @@
+// The first and the last line of a call.
+use crate::LineAnswer;
+use crate::bytes::append;
+use crate::bytes::place;
+use crate::fields::write_count;
+ghost use mathlib.Core.Path.{_≡_};
+ghost use Prim.Native.Nat.{_≤_};
+ghost use lib.ListN.{length};
+ghost use Rattle.report.specs.Lines.{firstLine, lastLine};
+ghost use Rattle.report.specs.Placing.{placeAnswer, placeWrites};
+
+// The first line, to `at` and on. Refused: 1, the buffer ends before the line.
+pub fn first_line(out: &mut [u8], at: usize) -> LineAnswer
+    ensures { λ r. ⌜ (r ≡ placeAnswer firstLine at (length (now (out .entry))))
+        × (now (out .exit) ≡ placeWrites firstLine at (now (out .entry))) ⌝ }
+{
+    place(b"grain=186 order=house\n", out, at)
+}
+
+// The last line, to `at` and on; it has at most 144 bytes. Refused: 1, the buffer ends before the line.
+pub fn last_line(frames: u64, repeats: u64, left: u64, out: &mut [u8], at: usize) -> LineAnswer
+    ensures { λ r. ⌜ (r ≡ placeAnswer (lastLine frames repeats left) at (length (now (out .entry))))
+        × (now (out .exit) ≡ placeWrites (lastLine frames repeats left) at (now (out .entry)))
+        × (length (lastLine frames repeats left) ≤ 144) ⌝ }
+{
+    let mut line = [0u8; 144];
+    let first = write_count(b"frames=", frames, &mut line, 0);
+    let second = write_count(b" repeats=", repeats, &mut line, first);
+    let third = write_count(b" left=", left, &mut line, second);
+    let end = append(b"\n", &mut line, third);
+    place(&line[..end], out, at)
+}
