@@ -1,0 +1,3 @@
+pub mod Taken
+pub mod Waiting
+pub mod Shown

@@ -1,0 +1,83 @@
+-- `hear::frames::take_frame` meets its contract: the receiver takes frame k, and its line is added. Assumes nothing.
+use mathlib.Core.Path.{_≡_, refl, ap, _∙_}
+use Prim.Native.Nat.{_+_}
+use native.Mathlib.Omega.{arith}
+use Rattle.report.specs.Lines.{frameLine}
+use Rattle.hear.specs.Call.{repeatOf, answerAt}
+use Rattle.report.proofs.Added.{line-added}
+use Rattle.hear.proofs.Taken.{answer-is, next-is}
+use borrow.Author.Needs.{needs}
+use Rattle.hear.proofs.frames.take_frame.Statement.{statement}
+use Rattle.hear.proofs.frames.take_frame.Tie as tie
+
+mul-receive : tie.Need-mul-receive
+mul-receive c = search needs
+
+mul-receive-2 : tie.Need-mul-receive-2
+mul-receive-2 c = search needs
+
+add-receive : tie.Need-add-receive
+add-receive c = search needs
+
+sub-receive : tie.Need-sub-receive
+sub-receive c = search needs
+
+part-receive-start : tie.Need-part-receive-start
+part-receive-start c = search needs
+
+part-receive-end : tie.Need-part-receive-end
+part-receive-end c = search needs
+
+receive-requires : tie.Need-receive-requires
+receive-requires c κs = search needs
+
+repeat-of-requires : tie.Need-repeat-of-requires
+repeat-of-requires c κs = search needs
+
+add-t17 : tie.Need-add-t17
+add-t17 c = search needs
+
+frame-line-requires : tie.Need-frame-line-requires
+frame-line-requires c κs = search needs
+
+end-of-requires : tie.Need-end-of-requires
+end-of-requires c κs = search needs
+
+same-length : tie.Need-same-length
+same-length c = search needs
+
+returns : tie.Need-returns
+returns c =
+    let l = c .before .before .before in
+    let t = l .before .before .before in
+    let r = t .before .before in
+    let s = r .before .before .before .before .before in
+    let a = s .args in
+    let bytes = a .bytes .now in
+    let b = a .before in
+    let x = r .receive .result in
+    let ans = answer-is bytes (a .k) (b .rec) x (r .receive .ensures) (s .pre .1) in
+    let n : t .repeat-of .result ≡ repeatOf (answerAt bytes (a .k)) = t .repeat-of .ensures .0 ∙ ap repeatOf ans in
+    let q = line-added (frameLine (a .k) (x .answer)) (a .out .now) _ (b .end) 144 _ _ (l .frame-line .ensures) (c .end-of .ensures) (s .pre .0 .1) in
+    let w = rw ans at q in (
+      (next-is bytes (a .k) (b .rec) x (r .receive .ensures) (s .pre .1), ap (λ n. b .repeats + n) n),
+      (w .0, w .1, omega (arith, t .repeat-of .ensures .1, s .pre .0 .2), refl, rw ans at (l .frame-line .ensures .2)),
+    )
+
+pub take-frame-spec : {M : Type 1} → statement M
+take-frame-spec =
+    tie.close
+    (tie.spec
+    mul-receive
+    mul-receive-2
+    add-receive
+    sub-receive
+    part-receive-start
+    part-receive-end
+    receive-requires
+    repeat-of-requires
+    add-t17
+    frame-line-requires
+    end-of-requires
+    same-length
+    returns)

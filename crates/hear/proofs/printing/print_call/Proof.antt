@@ -1,0 +1,101 @@
+-- `hear::printing::print_call` meets its contract: with the last line the whole text is sent or waits, and what waits is sent. Assumes nothing.
+use mathlib.Core.Path.{_≡_, ap, _∙_}
+use mathlib.Core.List.{List, [], append-nil}
+use Prim.Native.Nat.{ℕ, _+_, _≤_}
+use native.Mathlib.Omega.{arith}
+use lib.ListN.{length, take, drop}
+use Rattle.report.specs.Lines.{firstLine, lastLine}
+use Rattle.hear.specs.Call.{framesIn, leftIn, textBefore, repeatsBefore, text, Pending}
+use Rattle.report.proofs.Added.{line-added}
+use Rattle.hear.proofs.Waiting.{waits-more, waits-next}
+use borrow.Author.Needs.{needs}
+use Rattle.hear.proofs.printing.print_call.Statement.{statement}
+use Rattle.hear.proofs.printing.print_call.Tie as tie
+
+-- where room was made for the last line, and where the call began
+abbrev made : tie.After-end-of2 → tie.After-make-room
+made c = c .before .before .before .before .before
+
+abbrev begun : tie.After-end-of2 → tie.Start
+begun c = made c .before .before .before .before .before .before .before .before .before .before .before .before .before
+
+-- the whole text is sent or waits
+whole : (c : tie.After-end-of2)
+    → Pending (text (begun c .args .bytes .now)) (made c .make-room .result .sent) (c .end-of2 .result) (c .before .before .before .last-line .last .1 .1 .1 .0)
+    × (c .end-of2 .result ≤ made c .make-room .result .end + 144)
+unfolding text
+whole c =
+    let l = c .before .before .before in
+    let m = l .before .before in
+    let p = m .before .before .before .before in
+    let s = p .before .before .before .before .before .before .before .before .before in
+    let bytes = s .args .bytes .now in
+    let n = framesIn bytes in
+    let r = m .make-room .ensures in
+    let count : m .make-room .result .repeats ≡ repeatsBefore bytes n = r .0 .1 ∙ p .print-frames .ensures .0 .0 in
+    let last = lastLine n (m .make-room .result .repeats) (leftIn bytes) in
+    let q = line-added last _ _ (m .make-room .result .end) 144 _ _ (l .last-line .ensures) (c .end-of2 .ensures) (omega (arith, r .1 .1)) in
+    (waits-more (textBefore bytes n) _ _ _ (r .1 .0) _ _ _ (rw count at (q .0)), q .1)
+
+first-line-requires : tie.Need-first-line-requires
+first-line-requires c κs = search needs
+
+end-of-requires : tie.Need-end-of-requires
+end-of-requires c κs = search needs
+
+print-frames-requires : tie.Need-print-frames-requires
+unfolding textBefore
+print-frames-requires c κs =
+    let e = c .before in
+    let f = e .before .before .before in
+    let s = f .before .before .before .before in
+    let size : length firstLine ≤ 22 = omega arith in
+    let w = f .first-line .ensures in
+    let q = line-added firstLine (s .args .out .now) _ 0 22 _ _ (w .0, w .1, size) (e .end-of .ensures) (omega (arith, s .pre)) in
+    (s .pre .0, search needs, omega (arith, q .0 .0), (omega (arith, q .0 .0), q .0 .1))
+
+make-room-requires : tie.Need-make-room-requires
+make-room-requires c κs = search needs
+
+last-line-requires : tie.Need-last-line-requires
+last-line-requires c κs = search needs
+
+end-of-requires-2 : tie.Need-end-of-requires-2
+end-of-requires-2 c κs = search needs
+
+send-requires : tie.Need-send-requires
+send-requires c κs =
+    let e = c .before in
+    let m = e .before .before .before .before .before in
+    let p = m .before .before .before .before in
+    let r = m .make-room .ensures in
+    let f = p .print-frames .ensures in
+    let w = whole e in
+    let g = p .before .before .before .before .before in
+    let s = g .before .before .before .before in
+    let size : length (e .before .before .before .last-line .last .1 .1 .1 .0) ≡ 65536 =
+    e .before .before .before .last-line .kept .1 .1 .1 .0 ∙ p .print-frames .kept .1 .0 ∙ g .first-line .kept .0 ∙ s .pre .1 in
+    let t = text (s .args .bytes .now) in
+    let n = waits-next t (m .make-room .result .sent) (e .end-of2 .result) _ (w .0) [] in
+    let all = ap (λ (l : List ℕ). take (e .end-of2 .result) (drop (m .make-room .result .sent) l)) (append-nil t) in
+    (omega (arith, w .1, r .1 .1, size), n ∙ all, omega (arith, w .1, r .1 .0 .0, f .1 .0 .0, f .0 .1))
+
+same-length : tie.Need-same-length
+same-length c = search needs
+
+returns : tie.Need-returns
+returns c = c .send .ensures ∙ whole (c .before .before) .0 .0
+
+pub print-call-spec : {M : Type 1} → statement M
+print-call-spec =
+    tie.close
+    (tie.spec
+    first-line-requires
+    end-of-requires
+    print-frames-requires
+    make-room-requires
+    last-line-requires
+    end-of-requires-2
+    send-requires
+    same-length
+    returns)

@@ -1,0 +1,90 @@
+-- `hear::printing::print_frames` meets its contract: after k turns k frames are received, and their lines are sent or wait. Assumes nothing.
+use mathlib.Core.Path.{_≡_, refl, ap, _∙_}
+use Prim.Native.Nat.{suc, _+_, _-_, _*_, _/_, _≤_}
+use native.Mathlib.Numerals.{add-one}
+use native.Mathlib.Omega.{arith}
+use lib.ListN.{length}
+use Rattle.hear.specs.Call.{answerAt, repeatOf, recordAfter, textBefore, repeatsBefore, Pending}
+use Rattle.hear.proofs.Waiting.{waits-more}
+use borrow.Author.Needs.{needs}
+use Rattle.hear.proofs.printing.print_frames.Statement.{statement}
+use Rattle.hear.proofs.printing.print_frames.Tie as tie
+
+abbrev Inv-loop : tie.InvT-loop
+Inv-loop bytes out₀ end progress₀ k₀ k-end out progress k =
+    ((k-end ≡ length bytes / 7) × (k ≤ k-end) × (length out ≡ length out₀))
+    × ((progress .rec ≡ recordAfter bytes k) × (progress .repeats ≡ repeatsBefore bytes k) × (progress .repeats ≤ k))
+    × (Pending (textBefore bytes k) (progress .sent) (progress .end) out × (progress .end ≤ 65536) × (progress .sent + progress .end ≤ 22 + 144 * k))
+
+abbrev μ-loop : tie.MeasureT-loop
+μ-loop bytes out₀ end progress₀ k₀ k-end out progress k = k-end - k
+
+fresh-requires : tie.Need-fresh-requires Inv-loop μ-loop
+fresh-requires c κs = search needs
+
+loop-holds : tie.Need-loop-holds Inv-loop μ-loop
+unfolding recordAfter textBefore repeatsBefore
+loop-holds c =
+    let s = c .before .before .before in
+    ((refl, omega arith, refl), (c .fresh .ensures, refl, omega arith), (s .pre .3, omega arith, omega arith))
+
+make-room-requires : tie.Need-make-room-requires Inv-loop μ-loop
+make-room-requires c κs = search needs
+
+take-frame-requires : tie.Need-take-frame-requires Inv-loop μ-loop
+take-frame-requires c κs =
+    let m = c .before in
+    let i = m .before .before .before .loop .inv in
+    (search needs, m .make-room .ensures .0 .0 ∙ i .1 .0)
+
+add-k : tie.Need-add-k Inv-loop μ-loop
+add-k c = search needs
+
+loop-less : tie.Need-loop-less Inv-loop μ-loop
+loop-less c = search needs
+
+loop-again : tie.Need-loop-again Inv-loop μ-loop
+unfolding textBefore repeatsBefore
+loop-again c =
+    let t = c .before .before in
+    let m = t .before .before in
+    let l = m .before .before .before in
+    let L = l .loop in
+    let bytes = l .before .before .before .before .args .bytes .now in
+    let f = t .take-frame .ensures in
+    let r = m .make-room .ensures in
+    let n : m .make-room .result .repeats + repeatOf (answerAt bytes (L .k)) ≡ repeatsBefore bytes (suc (L .k)) =
+    ap (λ n. n + repeatOf (answerAt bytes (L .k))) (r .0 .1 ∙ L .inv .1 .1) in
+    let w = waits-more (textBefore bytes (L .k)) _ _ _ (r .1 .0) _ _ _ (f .1 .0) in
+    rw add-one (
+      (L .inv .0 .0, omega arith, search needs),
+      (f .0 .0, f .0 .1 ∙ n, f .1 .2),
+      (rw (f .1 .3) w, omega arith, omega arith),
+    )
+
+same-length : tie.Need-same-length Inv-loop μ-loop
+same-length c = search needs
+
+returns : tie.Need-returns Inv-loop μ-loop
+returns c =
+    let L = c .before .loop in
+    let s = c .before .before .before .before .before in
+    let i = L .inv in
+    let e : L .k ≡ length (s .args .bytes .now) / 7 = omega (arith, i .0 .0, i .0 .1) in
+    ((rw e at (i .1 .1), omega (arith, i .2 .2, s .pre)), (rw e at (i .2 .0), i .2 .1))
+
+pub print-frames-spec : {M : Type 1} → statement M
+print-frames-spec =
+    tie.close
+    (tie.spec
+    Inv-loop
+    μ-loop
+    fresh-requires
+    loop-holds
+    make-room-requires
+    take-frame-requires
+    add-k
+    loop-less
+    loop-again
+    same-length
+    returns)

@@ -1,0 +1,62 @@
+-- Document 01, "Program hear": what is printed for the bytes of a call, of which at most 65,534 are read.
+use Prim.Native.Nat.{ℕ, zero, suc, _+_, _*_, _/_, _%_}
+use mathlib.Core.Path.{_≡_}
+use mathlib.Core.List.{List, _++_}
+use lib.ListN.{length, take, drop}
+use Rattle.order.specs.Order.{defaultOrder}
+use Rattle.receiver.specs.declared.Kind.{Kind}
+use Rattle.receiver.specs.declared.Kind.the-variants.{Unvoiced, Voiced, Repeat}
+use Rattle.receiver.specs.declared.ReceiveAnswer.{ReceiveAnswer}
+use Rattle.receiver.specs.declared.ReceiveAnswer.the-variants.{Result, Refused}
+use Rattle.records.specs.declared.Record.{Record}
+use Rattle.records.specs.Records.{fresh}
+use Rattle.receiver.specs.Receiving.{receive}
+use Rattle.report.specs.Lines.{firstLine, frameLine, lastLine}
+
+-- whole frames of seven bytes, and the bytes after the last of them
+abbrev pub framesIn : List ℕ → ℕ
+framesIn bytes = length bytes / 7
+
+abbrev pub leftIn : List ℕ → ℕ
+leftIn bytes = length bytes % 7
+
+-- frame k, counted from 0
+abbrev pub frameAt : List ℕ → ℕ → List ℕ
+frameAt bytes k = take 7 (drop (7 * k) bytes)
+
+-- the record of a receiver, fresh before the first frame, after k frames
+unfoldable pub recordAfter : List ℕ → ℕ → Record
+recordAfter bytes zero = fresh
+recordAfter bytes (suc k) = receive defaultOrder (recordAfter bytes k) (frameAt bytes k) .next
+
+-- what it answers frame k
+unfoldable pub answerAt : List ℕ → ℕ → ReceiveAnswer
+answerAt bytes k = receive defaultOrder (recordAfter bytes k) (frameAt bytes k) .answer
+
+-- 1 for a frame of kind R
+abbrev pub repeatKind : Kind → ℕ
+repeatKind Unvoiced = 0
+repeatKind Voiced = 0
+repeatKind Repeat = 1
+
+abbrev pub repeatOf : ReceiveAnswer → ℕ
+repeatOf (Result r) = repeatKind (r .kind)
+repeatOf (Refused n) = 0
+
+-- the first line and those of the first k frames
+unfoldable pub textBefore : List ℕ → ℕ → List ℕ
+textBefore bytes zero = firstLine
+textBefore bytes (suc k) = textBefore bytes k ++ frameLine k (answerAt bytes k)
+
+-- how many of the first k frames are of kind R
+unfoldable pub repeatsBefore : List ℕ → ℕ → ℕ
+repeatsBefore bytes zero = 0
+repeatsBefore bytes (suc k) = repeatsBefore bytes k + repeatOf (answerAt bytes k)
+
+-- all that is printed
+unfoldable pub text : List ℕ → List ℕ
+text bytes = textBefore bytes (framesIn bytes) ++ lastLine (framesIn bytes) (repeatsBefore bytes (framesIn bytes)) (leftIn bytes)
+
+-- of the text so far, `sent` bytes have gone out and the others wait at the front of a buffer, up to `end`
+abbrev pub Pending : List ℕ → ℕ → ℕ → List ℕ → Type 0
+Pending soFar sent end out = (sent + end ≡ length soFar) × (take end out ≡ drop sent soFar)

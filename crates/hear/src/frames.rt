@@ -1,0 +1,63 @@
+// What the receiver makes of each frame, and its line.
+use receiver::Kind;
+use receiver::ReceiveAnswer;
+use records::Record;
+use report::end_of;
+ghost use mathlib.Core.Path.{_≡_};
+ghost use Prim.Native.Nat.{suc, _+_, _*_, _≤_};
+ghost use lib.ListN.{length};
+ghost use Rattle.report.specs.Lines.{frameLine};
+ghost use Rattle.report.specs.Placing.{Appended};
+ghost use Rattle.hear.specs.Call.{repeatOf, recordAfter, answerAt};
+
+// How far a call is received: the receiver's record, how many frames were repeats, how many bytes of the text are
+// sent, and where the others end in the buffer.
+pub(crate) struct Progress {
+    pub(crate) rec: Record,
+    pub(crate) repeats: u64,
+    pub(crate) sent: usize,
+    pub(crate) end: usize,
+}
+
+// 1 for a repeat, 0 for any other answer.
+fn repeat_of(answer: ReceiveAnswer) -> u64
+    ensures { λ r. ⌜ (r ≡ repeatOf answer) × (r ≤ 1) ⌝ }
+{
+    match answer {
+        ReceiveAnswer::Refused(_) => 0,
+        ReceiveAnswer::Result(result) => {
+            let kind = result.kind;
+            match kind {
+                Kind::Repeat => 1,
+                Kind::Unvoiced => 0,
+                Kind::Voiced => 0,
+            }
+        }
+    }
+}
+
+// Frame k: the receiver takes it, and its line is written.
+pub(crate) fn take_frame(before: Progress, bytes: &[u8], k: usize, out: &mut [u8]) -> Progress
+    requires { ⌜ (7 * suc k ≤ length (now bytes)) × (before .end + 144 ≤ length (now out)) × (before .repeats ≤ k) ⌝ }
+    requires { ⌜ before .rec ≡ recordAfter (now bytes) k ⌝ }
+    ensures received { λ r. ⌜ (r .rec ≡ recordAfter (now (bytes .entry)) (suc k)) × (r .repeats ≡ before .repeats + repeatOf (answerAt (now (bytes .entry)) k)) ⌝ }
+    ensures line { λ r. ⌜ Appended (now (out .entry)) (before .end) (frameLine k (answerAt (now (bytes .entry)) k)) (now (out .exit)) (r .end)
+        × (r .end ≤ before .end + 144)
+        × (r .repeats ≤ suc k)
+        × (r .sent ≡ before .sent)
+        × (length (frameLine k (answerAt (now (bytes .entry)) k)) ≤ 144) ⌝ }
+{
+    let rec = before.rec;
+    let received = receiver::receive(rec, &bytes[7 * k..7 * k + 7]);
+    let answer = received.answer;
+    let next = received.next;
+    Progress {
+        rec: next,
+        repeats: before.repeats + repeat_of(answer),
+        sent: before.sent,
+        end: end_of(
+            report::frame_line(k as u64, answer, out, before.end),
+            before.end,
+        ),
+    }
+}
