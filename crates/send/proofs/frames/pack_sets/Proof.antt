@@ -1,0 +1,124 @@
+-- `send::frames::pack_sets` meets its contract: after k turns k frames stand in front, and a refused set or the last one ends them. Assumes nothing.
+use mathlib.Core.Path.{_≡_, refl, ap}
+use Prim.Native.Nat.{_*_, _-_, _≤_}
+use native.Mathlib.Numerals.{add-one}
+use native.Mathlib.Omega.{arith}
+use lib.ListN.{length}
+use borrow.Author.Needs.{needs}
+use Rattle.frame.specs.Packing.{freshSync}
+use Rattle.send.specs.Sending.{setsIn, sentFrom, sent}
+use Rattle.send.proofs.Turns.{SoFar, last-owes}
+use Rattle.send.proofs.Tails.{packed-turn, refused-turn}
+use Rattle.send.proofs.frames.pack_sets.Statement.{statement}
+use Rattle.send.proofs.frames.pack_sets.Tie as tie
+
+abbrev Inv-loop : tie.InvT-loop
+Inv-loop bytes out₀ sync₀ count k₀ out sync k = (count ≡ setsIn bytes) × (k ≤ count) × (7 * count ≤ length out₀) × SoFar bytes out₀ sync k out
+
+abbrev μ-loop : tie.MeasureT-loop
+μ-loop bytes out₀ sync₀ count k₀ out sync k = count - k
+
+loop-holds : tie.Need-loop-holds Inv-loop μ-loop
+unfolding sent
+loop-holds c =
+    let a = c .before .before .args in
+    let n : setsIn (a .bytes .now) - 0 ≡ setsIn (a .bytes .now) = omega arith in
+    (refl, omega arith, c .before .before .pre, (refl, ap (sentFrom (a .bytes .now) freshSync 0) n, refl))
+
+mul-set-at : tie.Need-mul-set-at Inv-loop μ-loop
+mul-set-at c = search needs
+
+set-at-requires : tie.Need-set-at-requires Inv-loop μ-loop
+set-at-requires c κs = search needs
+
+mul-pack : tie.Need-mul-pack Inv-loop μ-loop
+mul-pack c = search needs
+
+sub-pack : tie.Need-sub-pack Inv-loop μ-loop
+sub-pack c = search needs
+
+part-pack-start : tie.Need-part-pack-start Inv-loop μ-loop
+part-pack-start c = search needs
+
+part-pack-end : tie.Need-part-pack-end Inv-loop μ-loop
+part-pack-end c = search needs
+
+pack-requires : tie.Need-pack-requires Inv-loop μ-loop
+pack-requires c κs = search needs
+
+enum-known-answer : tie.Need-enum-known-answer Inv-loop μ-loop
+enum-known-answer c = search needs
+
+enum-told : tie.Need-enum-told Inv-loop μ-loop
+enum-told c = search needs
+
+mul-result : tie.Need-mul-result Inv-loop μ-loop
+mul-result c = search needs
+
+same-length : tie.Need-same-length Inv-loop μ-loop
+same-length c = search needs
+
+returns : tie.Need-returns Inv-loop μ-loop
+returns c =
+    let p = c .before .before .before .before in
+    let t = p .before .before in
+    let L = t .before .before .loop in
+    let a = t .before .before .before .before .before .args in
+    refused-turn (a .bytes .now) (a .out .now) (L .sync) (L .k) (L .out) (L .inv .3) (t .before .loop-test .taken) (L .inv .2) _ (t .set-at .ensures) _ _
+    (p .pack .ensures) _ (c .enum-told .given .1)
+
+add-k : tie.Need-add-k Inv-loop μ-loop
+add-k c = search needs
+
+loop-less : tie.Need-loop-less Inv-loop μ-loop
+loop-less c = search needs
+
+loop-again : tie.Need-loop-again Inv-loop μ-loop
+loop-again c =
+    let p = c .before .before .before .before .before in
+    let t = p .before .before in
+    let L = t .before .before .loop in
+    let a = t .before .before .before .before .before .args in
+    let m = packed-turn (a .bytes .now) (a .out .now) (L .sync) (L .k) (L .out) (L .inv .3) (t .before .loop-test .taken) (L .inv .2) _ (t .set-at .ensures) _ _
+    (p .pack .ensures) _ (c .before .answer .given .1) in
+    rw add-one (L .inv .0, omega arith, L .inv .2, m)
+
+mul-result-2 : tie.Need-mul-result-2 Inv-loop μ-loop
+mul-result-2 c = search needs
+
+same-length-2 : tie.Need-same-length-2 Inv-loop μ-loop
+same-length-2 c = search needs
+
+returns-2 : tie.Need-returns-2 Inv-loop μ-loop
+returns-2 c =
+    let L = c .before .loop in
+    let a = c .before .before .before .before .args in
+    let e : L .k ≡ setsIn (a .bytes .now) = omega (arith, c .loop-test .left) in
+    let le : 7 * L .k ≤ length (L .out) = omega (arith, L .inv) in
+    rw e at (last-owes (a .bytes .now) (a .out .now) (L .sync) (L .k) (L .out) (L .inv .3) le (omega arith))
+
+pub pack-sets-spec : {M : Type 1} → statement M
+pack-sets-spec =
+    tie.close
+    (tie.spec
+    Inv-loop
+    μ-loop
+    loop-holds
+    mul-set-at
+    set-at-requires
+    mul-pack
+    sub-pack
+    part-pack-start
+    part-pack-end
+    pack-requires
+    enum-known-answer
+    enum-told
+    mul-result
+    same-length
+    returns
+    add-k
+    loop-less
+    loop-again
+    mul-result-2
+    same-length-2
+    returns-2)
