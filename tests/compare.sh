@@ -1,19 +1,174 @@
 #!/usr/bin/env bash
-# compare.sh [ROUNDS]: ROUNDS times 1,000 fresh vectors of the independent implementation through the proved program.
-# Stops with status 1 at the first round that differs. Needs target/bin/vectors (rt check vectors) and rustc.
+# The proved programs against the independent implementation, on inputs that follow from SEED (1 if not given):
+#   compare.sh vectors VECTORS [SEED]   so many calls of the library
+#   compare.sh spectrum INPUTS [SEED]   at least so many inputs of the program spectrum
+#   compare.sh hear FRAMES [SEED]       at least so many frames of the program hear
+#   compare.sh                          a short run of all three
+# Ends with status 1 at the first difference. Needs rustc, and the proved programs in target/bin (rt check).
 set -euo pipefail
 top=$(cd "$(dirname "$0")/.." && pwd)
-rounds=${1:-40}
+proved=$top/target/bin
 work=$(mktemp -d)
 trap 'rm -rf "$work"' EXIT
-rustc -O -o "$work/vectors" "$top/tests/reference/vectors.rs"
-"$work/vectors" selftest
-for ((seed = 1; seed <= rounds; seed++)); do
-  said=$("$work/vectors" 1000 "$seed" | "$top/target/bin/vectors")
-  if [ "$said" != "vectors=1000 differences=0 left=0" ]; then
-    echo "seed $seed: $said"
-    exit 1
+
+fail() {
+  printf '%s\n' "$@"
+  exit 1
+}
+
+# At most one line a second.
+progress() {
+  ((SECONDS == told)) || echo "$1, no difference so far"
+  told=$SECONDS
+}
+
+# prepare PROGRAM HELPER...: the proved program must be there; the independent one is built and tried on the document's
+# examples.
+prepare() {
+  local name
+  [ -x "$proved/$1" ] || fail "target/bin/$1 is missing: rt check $1 makes it"
+  for name; do
+    rustc -O -o "$work/$name" "$top/tests/reference/$name.rs"
+  done
+  [ "$("$work/$1" selftest)" = ok ] || fail "the independent $1 fails on the document's examples"
+  told=$SECONDS
+}
+
+# Whether the texts expected and printed are the same. If not, found has the number of the first line that differs, from
+# 0, and that line of either text.
+same() {
+  "$work/difference" "$work/expected" "$work/printed" >"$work/found" && return
+  mapfile -t found <"$work/found"
+  return 1
+}
+
+# ---- vectors ----
+
+# says FILE ANSWER: whether this is the proved program's answer to the vectors of a file; said is what it says.
+says() {
+  said=$("$proved/vectors" <"$work/$1") || said="$said status=$?"
+  [ "$said" = "$2" ]
+}
+
+# The proved program must find every one of a thousand wrong expectations.
+find_spoilt() {
+  "$work/vectors" 1000 "$1" spoilt >"$work/lot"
+  says lot "vectors=1000 differences=1000 left=0" || fail "vectors: seed $1, 1000 spoilt vectors, answer: \"$said\""
+}
+
+# The first vector of the lot that the proved program does not confirm, in hexadecimal.
+wrong_vector() {
+  local number
+  for ((number = 0; number < lot; number++)); do
+    dd if="$work/lot" of="$work/one" bs=64 skip="$number" count=1 status=none
+    says one "vectors=1 differences=0 left=0" || break
+  done
+  echo "vector $number:" && od -An -tx1 -v "$work/one"
+}
+
+compare_vectors() {
+  local count=0 seed=$2 lot said
+  prepare vectors
+  find_spoilt "$seed"
+  while ((count < $1)); do
+    lot=$(($1 - count < 1000 ? $1 - count : 1000))
+    "$work/vectors" "$lot" "$seed" >"$work/lot"
+    says lot "vectors=$lot differences=0 left=0" ||
+      fail "vectors: seed $seed, $lot vectors, answer: \"$said\"" "$(wrong_vector)"
+    count=$((count + lot)) seed=$((seed + 1))
+    progress "$count vectors"
+  done
+  echo "vectors: $count vectors, no difference"
+}
+
+# ---- spectrum ----
+
+# answers PROGRAM...: what it prints for each input in the folder of its case, under a heading, and its status.
+answers() (
+  for input in "$work"/cases/*/frame-*; do
+    cd "${input%/*}"
+    echo "case ${input#"$work/cases/"}"
+    status=0
+    "$@" <"$input" || status=$?
+    echo "(ended with status $status)"
+  done
+)
+
+# The case of a line of the texts.
+case_at() {
+  local text
+  head -n "$(($1 + 1))" "$work/expected" | while read -r text; do
+    if [[ $text == case* ]]; then echo "$text"; fi
+  done | tail -n 1
+}
+
+compare_spectrum() {
+  local count=0 kind=spoilt seed=$2 inputs
+  prepare spectrum spectrum_cases difference
+  while ((count < $1)); do
+    rm -rf "$work/cases" && mkdir "$work/cases"
+    "$work/spectrum_cases" "$work/cases" "$kind" "$seed"
+    answers "$work/spectrum" . >"$work/expected"
+    answers "$proved/spectrum" >"$work/printed"
+    same || fail "spectrum: seed $seed, $kind $(case_at "${found[0]}")" "expected: ${found[1]}" "printed:  ${found[2]}"
+    inputs=("$work"/cases/*/frame-*)
+    count=$((count + ${#inputs[@]}))
+    if [ "$kind" = random ]; then seed=$((seed + 1)); fi
+    kind=random
+    progress "$count inputs"
+  done
+  echo "spectrum: $count inputs, no difference"
+}
+
+# ---- hear ----
+
+# heard PROGRAM: what it prints for the call, which comes through a pipe in pieces, its status, and how many bytes it left
+# unread.
+heard() {
+  dd if="$work/call" bs="$piece" status=none | {
+    status=0
+    "$1" || status=$?
+    echo "(ended with status $status, $(wc -c) bytes unread)"
+  }
+}
+
+# The frame of a line of the texts, with its bytes.
+frame_at() {
+  if [[ $1 == 0 || ${found[1]} != frame=* ]]; then
+    echo "line $1"
+  else
+    echo "frame $(($1 - 1)), bytes$(od -An -tx1 -j "$((7 * $1 - 7))" -N 7 "$work/call")"
   fi
-  ((seed % 20)) || echo "$((seed * 1000)) vectors, no difference"
-done
-echo "$((rounds * 1000)) vectors, no difference"
+}
+
+compare_hear() {
+  local frames=0 call=0 pieces=(65536 1000 3) piece closing
+  prepare hear hear_calls difference
+  while ((frames < $1)); do
+    piece=${pieces[call % 3]}
+    "$work/hear_calls" "$call" "$2" >"$work/call"
+    heard "$work/hear" >"$work/expected"
+    heard "$proved/hear" >"$work/printed"
+    same || fail "hear: seed $2, call $call in pieces of $piece bytes, $(frame_at "${found[0]}")" \
+      "expected: ${found[1]}" "printed:  ${found[2]}"
+    closing=$(tail -n 2 "$work/printed" | head -n 1)
+    closing=${closing#frames=}
+    frames=$((frames + ${closing%% *})) call=$((call + 1))
+    progress "$frames frames in $call calls"
+  done
+  echo "hear: $frames frames in $call calls, no difference"
+}
+
+# ---- The call of this script ----
+
+number='^[1-9][0-9]{0,8}$'
+if (($# == 0)); then
+  compare_vectors 10000 1
+  compare_spectrum 1500 1
+  compare_hear 100000 1
+elif [[ $1 =~ ^(vectors|spectrum|hear)$ && ${2-} =~ $number && ${3-1} =~ $number && $# -le 3 ]]; then
+  "compare_$1" "$2" "${3-1}"
+else
+  echo "usage: compare.sh [vectors VECTORS [SEED] | spectrum INPUTS [SEED] | hear FRAMES [SEED]]"
+  exit 2
+fi

@@ -1,6 +1,9 @@
 //! A second implementation of document 01 up to receiving: slow, plain, section by section.
 //! Bits are u8 values 0 or 1; lists of bits run most significant first.
 
+// Each program uses its part.
+#![allow(dead_code)]
+
 /// Refusal numbers that the calls here can give (section "Refusals by place").
 #[derive(Clone, Copy, Debug, PartialEq, Eq)]
 pub enum Refusal {

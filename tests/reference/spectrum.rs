@@ -1,14 +1,15 @@
 //! The program of document 01's section "LSF and magnitude values": `spectrum FOLDER` takes a frame on standard input
-//! and the codebooks `lsf.txt` and `mag.txt` of a folder, and prints what the program has to print.
+//! and the codebooks `lsf.txt` and `mag.txt` of a folder, and prints what the program has to print. `spectrum selftest`
+//! tries the document's example 8.
 
-#[allow(dead_code)]
 mod melp;
 
 use melp::Set;
 use std::io::Read;
 use std::path::Path;
+use std::process::ExitCode;
 
-/// Millionths of a hertz in the 50 Hz of the house rule.
+/// Millionths of a hertz in 50 Hz.
 const SPACING: i64 = 50_000_000;
 
 /// Numbers in a row of either codebook.
@@ -73,7 +74,16 @@ fn row(codebook: &[i64], index: usize, least: i64, most: i64) -> Result<&[i64], 
     }
 }
 
-/// The four rows of a set added, then each component raised.
+/// Components raised: the first to 50 Hz, each next to 50 Hz above the one before.
+fn spaced(mut sums: Vec<i64>) -> Vec<i64> {
+    sums[0] = sums[0].max(SPACING);
+    for component in 1..ROW {
+        sums[component] = sums[component].max(sums[component - 1] + SPACING);
+    }
+    sums
+}
+
+/// The four rows of a set added, then raised.
 fn lsf_values(set: &Set, codebook: &[i64]) -> Result<Vec<i64>, u8> {
     let mut sums = vec![0; ROW];
     let mut first = 0;
@@ -85,11 +95,7 @@ fn lsf_values(set: &Set, codebook: &[i64]) -> Result<Vec<i64>, u8> {
         }
         first += STAGES[stage];
     }
-    sums[0] = sums[0].max(SPACING);
-    for component in 1..ROW {
-        sums[component] = sums[component].max(sums[component - 1] + SPACING);
-    }
-    Ok(sums)
+    Ok(spaced(sums))
 }
 
 /// Row F of a voiced set; an unvoiced one uses no row.
@@ -110,14 +116,39 @@ fn spectrum(input: &[u8], folder: &Path) -> Result<Vec<i64>, u8> {
     Ok([lsf_values(&set, &lsf)?, magnitudes(&set, &mag)?].concat())
 }
 
-fn main() {
-    let folder = std::env::args().nth(1).expect("usage: spectrum FOLDER");
+// ---- Program ----
+
+/// Example 8, in millionths.
+fn selftest() -> ExitCode {
+    let hertz = |values: [i64; ROW]| values.map(|value| 1_000_000 * value).to_vec();
+    let sums = hertz([300, 340, 500, 800, 1100, 1400, 1700, 2000, 2300, 2600]);
+    let expected = hertz([300, 350, 500, 800, 1100, 1400, 1700, 2000, 2300, 2600]);
+    if spaced(sums) != expected {
+        println!("example 8 fails");
+        return ExitCode::FAILURE;
+    }
+    println!("ok");
+    ExitCode::SUCCESS
+}
+
+/// Print the values, or the refusal.
+fn print(folder: &Path) {
     let mut input = Vec::new();
     std::io::stdin()
         .read_to_end(&mut input)
         .expect("standard input");
-    match spectrum(&input, Path::new(&folder)) {
+    match spectrum(&input, folder) {
         Err(refusal) => println!("refused={refusal}"),
         Ok(values) => values.iter().for_each(|value| println!("{value}")),
     }
+}
+
+fn main() -> ExitCode {
+    let argument = std::env::args().nth(1);
+    let argument = argument.expect("usage: spectrum FOLDER | spectrum selftest");
+    if argument == "selftest" {
+        return selftest();
+    }
+    print(Path::new(&argument));
+    ExitCode::SUCCESS
 }

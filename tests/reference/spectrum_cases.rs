@@ -1,13 +1,16 @@
-//! Cases for the program `spectrum`: `spectrum_cases FOLDER SEED`. Each case is a folder of its own with `lsf.txt` and
-//! `mag.txt` in any state, and one or more inputs `frame-N`. What has to be printed is not said here: `spectrum.rs` says it.
+//! Cases for the program `spectrum`: `spectrum_cases FOLDER spoilt|random SEED`. Each case is a folder of its own with
+//! `lsf.txt` and `mag.txt` in any state, and one or more inputs `frame-N`. What has to be printed is not said here:
+//! `spectrum.rs` says it.
 
-#[allow(dead_code)]
+mod frames;
 mod melp;
+mod random;
 
 use melp::{Set, Voicing};
+use random::Random;
 use std::fs;
 use std::io::Result;
-use std::path::{Path, PathBuf};
+use std::path::PathBuf;
 
 /// Lines of good codebooks.
 const LSF_LINES: usize = 3200;
@@ -16,35 +19,6 @@ const MAGNITUDE_LINES: usize = 2560;
 /// Limits of LSF entries and of magnitudes.
 const LSF_LIMIT: i64 = 4_000_000_000;
 const MAGNITUDE_LIMIT: i64 = 4_000_000;
-
-// ---- Pseudo-random numbers ----
-
-/// xorshift64* generator.
-struct Random(u64);
-
-impl Random {
-    fn next(&mut self) -> u64 {
-        self.0 ^= self.0 >> 12;
-        self.0 ^= self.0 << 25;
-        self.0 ^= self.0 >> 27;
-        self.0.wrapping_mul(0x2545_F491_4F6C_DD1D)
-    }
-
-    /// A number below n.
-    fn below(&mut self, n: u64) -> u64 {
-        (self.next() >> 16) % n
-    }
-
-    /// A number from low to high.
-    fn between(&mut self, low: i64, high: i64) -> i64 {
-        low + self.below((high - low + 1) as u64) as i64
-    }
-
-    /// One of the given values.
-    fn pick<T: Copy>(&mut self, values: &[T]) -> T {
-        values[self.below(values.len() as u64) as usize]
-    }
-}
 
 // ---- Frames ----
 
@@ -82,45 +56,6 @@ fn three_frames() -> Vec<Vec<u8>> {
     vec![frame(&known_set(true)), frame(&known_set(false)), erased()]
 }
 
-/// Any set in range.
-fn random_set(random: &mut Random) -> Set {
-    let mut below = |n| random.below(n) as u8;
-    let voicing = Voicing {
-        pitch: below(99),
-        bandpass: below(16),
-        fourier: below(256),
-        aperiodic: below(2),
-    };
-    Set {
-        lsf: [below(128), below(64), below(64), below(64)],
-        g2: below(32),
-        g1: below(8),
-        voicing: (below(3) > 0).then_some(voicing),
-    }
-}
-
-/// A frame of some set with a few flips, or any 54 bits; now and then of another length or with its last bits set.
-fn random_input(random: &mut Random) -> Vec<u8> {
-    let mut bytes = [0; 7];
-    if random.below(4) == 0 {
-        bytes.copy_from_slice(&random.next().to_be_bytes()[..7]);
-        bytes[6] &= 0xFC;
-    } else {
-        bytes.copy_from_slice(&frame(&random_set(random)));
-        for _ in 0..random.pick(&[0, 0, 0, 1, 2, 3]) {
-            melp::flip(&mut bytes, random.below(54) as usize);
-        }
-    }
-    if random.below(25) == 0 {
-        bytes[6] |= random.pick(&[1, 2, 3]);
-    }
-    let mut input = bytes.to_vec();
-    if random.below(25) == 0 {
-        input.resize(random.below(12) as usize, 0x55);
-    }
-    input
-}
-
 // ---- Codebooks ----
 
 /// The text of some numbers.
@@ -130,7 +65,7 @@ fn text(values: &[i64]) -> Vec<u8> {
 }
 
 /// Good codebooks with numbers of every size.
-fn good_books(random: &mut Random) -> (Vec<i64>, Vec<i64>) {
+fn good_codebooks(random: &mut Random) -> (Vec<i64>, Vec<i64>) {
     let lsf = (0..LSF_LINES)
         .map(|i| random.between(-50_000_000, 50_000_000) + 90_000_000 * (i as i64 % 10))
         .collect();
@@ -200,8 +135,14 @@ impl Cases {
     }
 
     /// A case in which one of two good texts is replaced.
-    fn add_changed(&self, name: &str, books: &Books, which: usize, changed: &[u8]) -> Result<()> {
-        let mut texts = [&books.lsf[..], &books.mag[..]];
+    fn add_changed(
+        &self,
+        name: &str,
+        codebooks: &Codebooks,
+        which: usize,
+        changed: &[u8],
+    ) -> Result<()> {
+        let mut texts = [&codebooks.lsf[..], &codebooks.mag[..]];
         texts[which] = changed;
         let name = format!("{}-{name}", FILES[which]);
         self.add(&name, Some(texts[0]), Some(texts[1]), &three_frames())
@@ -209,7 +150,7 @@ impl Cases {
 }
 
 /// The texts of two good codebooks.
-struct Books {
+struct Codebooks {
     lsf: Vec<u8>,
     mag: Vec<u8>,
 }
@@ -254,76 +195,70 @@ fn with_line(text: &[u8], i: usize, line: &[u8]) -> Vec<u8> {
 }
 
 /// Each of the lines above at the start, in the middle and at the end of either codebook.
-fn line_cases(cases: &Cases, books: &Books) -> Result<()> {
-    for (which, text) in [&books.lsf, &books.mag].iter().enumerate() {
+fn line_cases(cases: &Cases, codebooks: &Codebooks) -> Result<()> {
+    for (which, text) in [&codebooks.lsf, &codebooks.mag].iter().enumerate() {
         let last = text.iter().filter(|byte| **byte == b'\n').count() - 1;
         for (name, line) in LINES {
             for at in [0, last / 2, last] {
                 let changed = with_line(text, at, line);
-                cases.add_changed(&format!("{name}-{at}"), books, which, &changed)?;
+                cases.add_changed(&format!("{name}-{at}"), codebooks, which, &changed)?;
             }
         }
     }
     Ok(())
 }
 
-/// Texts that are wrong as a whole, and one that only looks so.
-fn text_cases(cases: &Cases, books: &Books) -> Result<()> {
-    for (which, text) in [&books.lsf, &books.mag].iter().enumerate() {
-        let size = text.len();
-        let first_end = text
-            .iter()
-            .position(|byte| *byte == b'\n')
-            .expect("a line end");
-        let last_start = text[..size - 1]
-            .iter()
-            .rposition(|byte| *byte == b'\n')
-            .expect("two lines")
-            + 1;
-        let filled = |n: usize| [&text[..], &vec![b'7'; n]].concat();
-        let texts: [(&str, Vec<u8>); 13] = [
-            ("empty_file", Vec::new()),
-            ("one_line_end", b"\n".to_vec()),
-            ("first_line_missing", text[first_end + 1..].to_vec()),
-            ("last_line_missing", text[..last_start].to_vec()),
-            ("one_line_more", [&text[..], b"5\n"].concat()),
-            ("last_end_missing", text[..size - 1].to_vec()),
-            ("one_end_more", [&text[..], b"\n"].concat()),
-            ("text_after", [&text[..], b"5"].concat()),
-            ("nul_after", [&text[..], b"\0"].concat()),
-            ("space_after_all", [&text[..], b" "].concat()),
-            ("twice", [&text[..], &text[..]].concat()),
-            ("full_buffer", filled(65_536 - size)),
-            ("past_the_buffer", filled(65_537 - size)),
-        ];
-        for (name, changed) in texts {
-            cases.add_changed(name, books, which, &changed)?;
+/// A good text spoilt as a whole.
+fn spoilt_texts(text: &[u8]) -> Vec<(&'static str, Vec<u8>)> {
+    let before_last_end = &text[..text.len() - 1];
+    let is_end = |byte: &u8| *byte == b'\n';
+    let second_line = text.iter().position(is_end).expect("a line end") + 1;
+    let last_line = before_last_end.iter().rposition(is_end).expect("two lines") + 1;
+    let followed_by = |more: &[u8]| [text, more].concat();
+    let filled_to = |size: usize| followed_by(&b"7".repeat(size - text.len()));
+    vec![
+        ("first_line_missing", text[second_line..].to_vec()),
+        ("last_line_missing", text[..last_line].to_vec()),
+        ("last_end_missing", before_last_end.to_vec()),
+        ("one_line_more", followed_by(b"5\n")),
+        ("one_end_more", followed_by(b"\n")),
+        ("text_after", followed_by(b"5")),
+        ("nul_after", followed_by(b"\0")),
+        ("space_after_all", followed_by(b" ")),
+        ("twice", followed_by(text)),
+        ("full_buffer", filled_to(65_536)),
+        ("past_the_buffer", filled_to(65_537)),
+    ]
+}
+
+/// Texts of equal lines, few, as many as either codebook has, or too many; ten zeros a line are good.
+fn uniform_texts() -> Vec<(&'static str, Vec<u8>)> {
+    vec![
+        ("empty_file", Vec::new()),
+        ("one_line_end", b"\n".to_vec()),
+        ("only_line_ends", b"\n".repeat(200_000)),
+        ("too_many_lines", b"0000000005\n".repeat(7_000)),
+        ("longest_lsf", b"-9999999999\n".repeat(LSF_LINES)),
+        ("longest_mag", b"-9999999999\n".repeat(MAGNITUDE_LINES)),
+        ("zero_lsf", b"0000000000\n".repeat(LSF_LINES)),
+        ("zero_mag", b"0000000000\n".repeat(MAGNITUDE_LINES)),
+    ]
+}
+
+/// Other texts in the place of either codebook, and each codebook in the other's place.
+fn text_cases(cases: &Cases, codebooks: &Codebooks) -> Result<()> {
+    let (lsf, mag) = (&codebooks.lsf[..], &codebooks.mag[..]);
+    for (which, text) in [lsf, mag].iter().enumerate() {
+        for (name, changed) in [spoilt_texts(text), uniform_texts()].concat() {
+            cases.add_changed(name, codebooks, which, &changed)?;
         }
-        let ends = vec![b'\n'; 200_000];
-        cases.add_changed("only_line_ends", books, which, &ends)?;
-        // Good lines up to the buffer's size and beyond.
-        let many = b"0000000005\n".repeat(7000);
-        cases.add_changed("seven_thousand_lines", books, which, &many)?;
     }
-    // The longest good text there is: every line a minus and ten digits, in rows that are refused, or ten zeros.
-    let longest = b"-9999999999\n".repeat(LSF_LINES);
-    cases.add_changed("longest", books, 0, &longest)?;
-    let zeros = b"0000000000\n".repeat(LSF_LINES);
-    cases.add_changed("all_zeros", books, 0, &zeros)?;
-    let zeros = b"0000000000\n".repeat(MAGNITUDE_LINES);
-    cases.add_changed("all_zeros", books, 1, &zeros)?;
-    // Each codebook in the other's place.
-    cases.add(
-        "swapped",
-        Some(&books.mag),
-        Some(&books.lsf),
-        &three_frames(),
-    )
+    cases.add("swapped", Some(mag), Some(lsf), &three_frames())
 }
 
 /// Missing files, and folders in place of files; input that is refused before them.
-fn file_cases(cases: &Cases, books: &Books) -> Result<()> {
-    let (lsf, mag) = (Some(&books.lsf[..]), Some(&books.mag[..]));
+fn file_cases(cases: &Cases, codebooks: &Codebooks) -> Result<()> {
+    let (lsf, mag) = (Some(&codebooks.lsf[..]), Some(&codebooks.mag[..]));
     let mut inputs = three_frames();
     inputs.extend([Vec::new(), vec![3; 7]]);
     cases.add("missing-lsf", None, mag, &inputs)?;
@@ -335,78 +270,83 @@ fn file_cases(cases: &Cases, books: &Books) -> Result<()> {
     fs::create_dir(cases.folder.join("folder-mag/mag.txt"))
 }
 
-/// Inputs of other lengths and with the last bits set, with good and with bad codebooks.
-fn input_cases(cases: &Cases, books: &Books) -> Result<()> {
-    let mut inputs = Vec::new();
-    for good in three_frames() {
-        for bits in 1..=3 {
-            let mut padded = good.clone();
-            padded[6] |= bits;
-            inputs.push(padded);
-        }
-        for length in [0, 1, 6, 8, 9, 14, 100, 70_000] {
-            let mut other = good.clone();
-            other.resize(length, 0);
-            inputs.push(other);
-        }
-        let mut both = good.clone();
-        both[6] |= 1;
-        both.push(0);
-        inputs.push(both);
-        inputs.push(good);
-    }
-    let (lsf, mag) = (Some(&books.lsf[..]), Some(&books.mag[..]));
-    cases.add("input-good_books", lsf, mag, &inputs)?;
-    cases.add("input-bad_books", Some(b"x"), Some(b"x"), &inputs)?;
-    cases.add("input-no_books", None, None, &inputs)
+/// A frame with its last bits set, of other lengths, with both, and as it is.
+fn variants(good: &[u8]) -> Vec<Vec<u8>> {
+    let changed = |bits: u8, length: usize| {
+        let mut input = good.to_vec();
+        input[6] |= bits;
+        input.resize(length, 0);
+        input
+    };
+    let lengths = [0, 1, 6, 8, 9, 14, 100, 70_000];
+    let mut inputs: Vec<Vec<u8>> = (0..=3).map(|bits| changed(bits, 7)).collect();
+    inputs.extend(lengths.map(|length| changed(0, length)));
+    inputs.push(changed(1, 8));
+    inputs
+}
+
+/// Inputs of every form, with good and with bad codebooks.
+fn input_cases(cases: &Cases, codebooks: &Codebooks) -> Result<()> {
+    let forms = three_frames().into_iter().map(|good| variants(&good));
+    let inputs: Vec<Vec<u8>> = forms.flatten().collect();
+    let (lsf, mag) = (Some(&codebooks.lsf[..]), Some(&codebooks.mag[..]));
+    cases.add("input-good_codebooks", lsf, mag, &inputs)?;
+    cases.add("input-bad_codebooks", Some(b"x"), Some(b"x"), &inputs)?;
+    cases.add("input-no_codebooks", None, None, &inputs)
 }
 
 /// A value at a place of an otherwise good codebook.
 fn limit_case(
     cases: &Cases,
-    books: &Books,
+    codebooks: &Codebooks,
     which: usize,
     row: usize,
     at: usize,
     value: i64,
 ) -> Result<()> {
-    let text = [&books.lsf, &books.mag][which];
+    let text = [&codebooks.lsf, &codebooks.mag][which];
     let changed = with_line(text, row * 10 + at, value.to_string().as_bytes());
     let name = format!("limit-row_{row}-entry_{at}-value_{value}");
-    cases.add_changed(&name, books, which, &changed)
+    cases.add_changed(&name, codebooks, which, &changed)
 }
 
-/// Entries at a limit and one past it, in rows in use and in rows beside them. Row 0 of each stage is what an erased frame
-/// uses.
-fn limit_cases(cases: &Cases, books: &Books) -> Result<()> {
-    let past = [
-        -9_999_999_999,
-        -LSF_LIMIT - 1,
-        -LSF_LIMIT,
-        LSF_LIMIT,
-        LSF_LIMIT + 1,
-        9_999_999_999,
-    ];
-    let rows = [
-        0, 4, 5, 6, 127, 128, 133, 134, 135, 192, 199, 200, 256, 263, 264, 265, 319,
-    ];
-    for row in rows {
-        for value in past {
-            limit_case(cases, books, 0, row, row % 10, value)?;
+/// Values at the limits of an LSF entry and past them.
+const LSF_EDGES: [i64; 6] = [
+    -9_999_999_999,
+    -LSF_LIMIT - 1,
+    -LSF_LIMIT,
+    LSF_LIMIT,
+    LSF_LIMIT + 1,
+    9_999_999_999,
+];
+
+/// Values at the limits of a magnitude and past them.
+const MAGNITUDE_EDGES: [i64; 6] = [
+    -9_999_999_999,
+    -1,
+    0,
+    MAGNITUDE_LIMIT,
+    MAGNITUDE_LIMIT + 1,
+    9_999_999_999,
+];
+
+/// Rows that the known frames use and rows beside them; an erased frame uses row 0 of each stage.
+const LSF_ROWS: [usize; 17] = [
+    0, 4, 5, 6, 127, 128, 133, 134, 135, 192, 199, 200, 256, 263, 264, 265, 319,
+];
+const MAGNITUDE_ROWS: [usize; 5] = [0, 8, 9, 10, 255];
+
+/// Each of these values in each of these rows.
+fn limit_cases(cases: &Cases, codebooks: &Codebooks) -> Result<()> {
+    for row in LSF_ROWS {
+        for value in LSF_EDGES {
+            limit_case(cases, codebooks, 0, row, row % 10, value)?;
         }
     }
-    let past = [
-        -9_999_999_999,
-        -1,
-        0,
-        MAGNITUDE_LIMIT,
-        MAGNITUDE_LIMIT + 1,
-        9_999_999_999,
-    ];
-    for row in [0, 8, 9, 10, 255] {
-        for value in past {
-            limit_case(cases, books, 1, row, 0, value)?;
-            limit_case(cases, books, 1, row, 9, value)?;
+    for row in MAGNITUDE_ROWS {
+        for value in MAGNITUDE_EDGES {
+            limit_case(cases, codebooks, 1, row, 0, value)?;
+            limit_case(cases, codebooks, 1, row, 9, value)?;
         }
     }
     Ok(())
@@ -421,21 +361,21 @@ fn random_cases(cases: &Cases, random: &mut Random, count: usize) -> Result<()> 
             .collect();
         let lsf = random_text(random, &lsf);
         let mag = random_text(random, &mag);
-        let inputs: Vec<Vec<u8>> = (0..5).map(|_| random_input(random)).collect();
+        let inputs: Vec<Vec<u8>> = (0..5).map(|_| frames::random_received(random)).collect();
         cases.add(&format!("random-{i}"), Some(&lsf), Some(&mag), &inputs)?;
     }
     Ok(())
 }
 
-/// Frames with random books that are good, so that no refusal hides a value.
+/// Frames with random codebooks that are good, so that no refusal hides a value.
 fn good_random_cases(cases: &Cases, random: &mut Random, count: usize) -> Result<()> {
     for i in 0..count {
         let spread = random.pick(&[1, 1_000, 60_000_000, 900_000_000, LSF_LIMIT]);
         let lsf: Vec<i64> = (0..LSF_LINES)
             .map(|_| random.between(-spread, spread))
             .collect();
-        let (_, mag) = good_books(random);
-        let inputs: Vec<Vec<u8>> = (0..5).map(|_| frame(&random_set(random))).collect();
+        let (_, mag) = good_codebooks(random);
+        let inputs: Vec<Vec<u8>> = (0..5).map(|_| frame(&frames::random_set(random))).collect();
         cases.add(
             &format!("good-{i}"),
             Some(&text(&lsf)),
@@ -446,30 +386,43 @@ fn good_random_cases(cases: &Cases, random: &mut Random, count: usize) -> Result
     Ok(())
 }
 
-fn all_cases(folder: &Path, seed: u64) -> Result<()> {
-    let cases = Cases {
-        folder: folder.to_path_buf(),
-    };
-    let mut random = Random(seed.wrapping_mul(0x9E37_79B9_7F4A_7C15) | 1);
-    let (lsf, mag) = good_books(&mut random);
-    let books = Books {
+// ---- Program ----
+
+/// Good codebooks and frames, spoilt one thing at a time.
+fn spoilt_cases(cases: &Cases, random: &mut Random) -> Result<()> {
+    let (lsf, mag) = good_codebooks(random);
+    let codebooks = Codebooks {
         lsf: text(&lsf),
         mag: text(&mag),
     };
-    line_cases(&cases, &books)?;
-    text_cases(&cases, &books)?;
-    file_cases(&cases, &books)?;
-    input_cases(&cases, &books)?;
-    limit_cases(&cases, &books)?;
-    random_cases(&cases, &mut random, 100)?;
-    good_random_cases(&cases, &mut random, 60)
+    line_cases(cases, &codebooks)?;
+    text_cases(cases, &codebooks)?;
+    file_cases(cases, &codebooks)?;
+    input_cases(cases, &codebooks)?;
+    limit_cases(cases, &codebooks)
+}
+
+/// Write the cases of one kind.
+fn write_cases(folder: &str, kind: &str, seed: u64) -> Result<()> {
+    let cases = Cases {
+        folder: PathBuf::from(folder),
+    };
+    let mut random = Random::new(seed);
+    match kind {
+        "spoilt" => spoilt_cases(&cases, &mut random),
+        "random" => {
+            random_cases(&cases, &mut random, 100)?;
+            good_random_cases(&cases, &mut random, 60)
+        }
+        _ => panic!("a kind is spoilt or random"),
+    }
 }
 
 fn main() {
     let arguments: Vec<String> = std::env::args().skip(1).collect();
-    let [folder, seed] = arguments.as_slice() else {
-        panic!("usage: spectrum_cases FOLDER SEED");
+    let [folder, kind, seed] = arguments.as_slice() else {
+        panic!("usage: spectrum_cases FOLDER spoilt|random SEED");
     };
     let seed = seed.parse().expect("a number");
-    all_cases(Path::new(folder), seed).expect("cases written");
+    write_cases(folder, kind, seed).expect("cases written");
 }

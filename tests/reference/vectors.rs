@@ -1,124 +1,21 @@
-//! Vectors of the independent implementation: `vectors N SEED`, or `vectors selftest`.
+//! Vectors of the independent implementation: `vectors N SEED`, each with a wrong expectation: `vectors N SEED spoilt`, or
+//! `vectors selftest`.
 
+mod examples;
+mod frames;
 mod melp;
+mod random;
 
+use frames::{random_received, random_set};
 use melp::{FrameResult, Kind, PitchClass, Record, Refusal, Set, Voicing, WordReading};
+use random::Random;
 use std::io::Write;
 use std::process::ExitCode;
 
 /// One vector; the layout is in README.md.
 type Vector = [u8; 64];
 
-// ---- Pseudo-random numbers ----
-
-/// xorshift64* generator.
-struct Random {
-    state: u64,
-}
-
-impl Random {
-    /// A generator whose whole output follows from the seed.
-    fn new(seed: u64) -> Random {
-        let mixed = seed ^ 0x9E37_79B9_7F4A_7C15;
-        let mut random = Random {
-            state: if mixed == 0 { 1 } else { mixed },
-        };
-        for _ in 0..32 {
-            random.next();
-        }
-        random
-    }
-
-    /// The next 64 bits.
-    fn next(&mut self) -> u64 {
-        self.state ^= self.state >> 12;
-        self.state ^= self.state << 25;
-        self.state ^= self.state >> 27;
-        self.state.wrapping_mul(0x2545_F491_4F6C_DD1D)
-    }
-
-    /// A number below n.
-    fn below(&mut self, n: u64) -> u64 {
-        (self.next() >> 16) % n
-    }
-
-    /// True once in n times.
-    fn once_in(&mut self, n: u64) -> bool {
-        self.below(n) == 0
-    }
-
-    /// One of the given values.
-    fn pick<T: Copy>(&mut self, values: &[T]) -> T {
-        values[self.below(values.len() as u64) as usize]
-    }
-
-    /// A whole number from low to high.
-    fn between(&mut self, low: i32, high: i32) -> i32 {
-        low + self.below((high - low) as u64 + 1) as i32
-    }
-
-    /// A value in 0..=last, the ends often.
-    fn inside(&mut self, last: u8) -> u8 {
-        match self.below(5) {
-            0 => 0,
-            1 => last,
-            _ => self.between(0, i32::from(last)) as u8,
-        }
-    }
-
-    /// A value past last (which is below 255), the ends often.
-    fn outside(&mut self, last: u8) -> u8 {
-        match self.below(3) {
-            0 => last + 1,
-            1 => 255,
-            _ => self.between(i32::from(last) + 1, 255) as u8,
-        }
-    }
-
-    /// Mostly a value in 0..=last, sometimes one past it.
-    fn around(&mut self, last: u8) -> u8 {
-        if self.once_in(4) {
-            self.outside(last)
-        } else {
-            self.inside(last)
-        }
-    }
-}
-
 // ---- Kind 1: pack ----
-
-/// A voicing in range; B = 1 comes up often.
-fn random_voicing(random: &mut Random) -> Voicing {
-    Voicing {
-        pitch: random.inside(98),
-        bandpass: if random.once_in(8) {
-            1
-        } else {
-            random.inside(15)
-        },
-        fourier: random.inside(255),
-        aperiodic: random.inside(1),
-    }
-}
-
-/// A set in range except for B = 1.
-fn random_set(random: &mut Random) -> Set {
-    Set {
-        lsf: [
-            random.inside(127),
-            random.inside(63),
-            random.inside(63),
-            random.inside(63),
-        ],
-        g2: random.inside(31),
-        g1: random.inside(7),
-        voicing: if random.once_in(2) {
-            Some(random_voicing(random))
-        } else {
-            None
-        },
-    }
-}
 
 /// Put one field of a set out of its range.
 fn spoil(random: &mut Random, set: &mut Set) {
@@ -319,7 +216,8 @@ fn level_at_ends(random: &mut Random) -> i32 {
 
 /// Any level in range.
 fn level_anywhere(random: &mut Random) -> i32 {
-    random.between(melp::LEVEL_RANGE.0, melp::LEVEL_RANGE.1)
+    let (low, high) = melp::LEVEL_RANGE;
+    random.between(i64::from(low), i64::from(high)) as i32
 }
 
 /// Half way between two neighbouring levels (rounded down), or a grain beside it.
@@ -333,7 +231,7 @@ fn random_second_level(random: &mut Random) -> i32 {
         0 => level_at_ends(random),
         1 => level_anywhere(random),
         _ => {
-            let below = 1860 + 402 * random.between(-1, 31);
+            let below = 1860 + 402 * random.between(-1, 31) as i32;
             level_near_middle(random, below, below + 402)
         }
     }
@@ -344,14 +242,14 @@ fn random_q(random: &mut Random, g2: u8) -> u8 {
     match random.below(12) {
         0 => random.outside(31),
         1..=3 => random.inside(31),
-        _ => (i32::from(g2) + random.between(-3, 3)).clamp(0, 31) as u8,
+        _ => (i64::from(g2) + random.between(-3, 3)).clamp(0, 31) as u8,
     }
 }
 
 /// A first level near an end of the steady-state span around the mean.
 fn level_near_steady_end(random: &mut Random, g2: u8, q: u8) -> Result<i32, Refusal> {
     let end = random.pick(&[-558, 558]);
-    Ok(melp::first_level(g2, 0, q)? + end + random.between(-1, 1))
+    Ok(melp::first_level(g2, 0, q)? + end + random.between(-1, 1) as i32)
 }
 
 /// A first level near a threshold between two of the seven.
@@ -396,9 +294,6 @@ fn choose_vector(random: &mut Random) -> Vector {
 
 // ---- Kind 9: receive ----
 
-/// First and last logical bit of words A to D and of the pitch code.
-const FIELDS: [(usize, usize); 5] = [(0, 7), (8, 13), (14, 20), (21, 27), (28, 34)];
-
 /// Which of the latest 16 frames were repeats, often about as many as mute needs.
 fn random_repeats(random: &mut Random) -> [bool; 16] {
     let count = match random.below(6) {
@@ -408,7 +303,7 @@ fn random_repeats(random: &mut Random) -> [bool; 16] {
     };
     let all: Vec<usize> = (0..16).collect();
     let mut repeats = [false; 16];
-    for i in some_of(random, &all, count as usize) {
+    for i in random.some_of(&all, count as usize) {
         repeats[i] = true;
     }
     repeats
@@ -435,91 +330,6 @@ fn spoil_record(random: &mut Random, record: &mut Record) {
     } else {
         spoil(random, &mut record.last_set);
     }
-}
-
-/// So many different ones of the given numbers.
-fn some_of(random: &mut Random, numbers: &[usize], count: usize) -> Vec<usize> {
-    let mut left = numbers.to_vec();
-    (0..count.min(left.len()))
-        .map(|_| left.swap_remove(random.below(left.len() as u64) as usize))
-        .collect()
-}
-
-/// Places of a word or of the pitch code.
-fn places_of_field(field: (usize, usize)) -> Vec<usize> {
-    (field.0..=field.1).map(melp::place_of).collect()
-}
-
-/// At most one place of each word and of the pitch code.
-fn one_in_each(random: &mut Random) -> Vec<usize> {
-    let mut flips = Vec::new();
-    for field in FIELDS {
-        let count = random.below(2) as usize;
-        flips.extend(some_of(random, &places_of_field(field), count));
-    }
-    flips
-}
-
-/// Two places of word A or of the pitch code, which erase an unvoiced frame.
-fn two_that_erase(random: &mut Random) -> Vec<usize> {
-    let field = random.pick(&[FIELDS[0], FIELDS[4]]);
-    some_of(random, &places_of_field(field), 2)
-}
-
-/// Places that the channel changes: none, anywhere, in a burst, light, erasing, or in one field.
-fn random_flips(random: &mut Random) -> Vec<usize> {
-    let count = random.pick(&[1, 1, 2, 2, 3, 4, 5, 6]);
-    match random.below(10) {
-        0 => Vec::new(),
-        1 => some_of(random, &(0..54).collect::<Vec<usize>>(), count),
-        2 => {
-            let start = random.below(48) as usize;
-            some_of(random, &(start..start + 7).collect::<Vec<usize>>(), count)
-        }
-        3 | 4 => one_in_each(random),
-        5 | 6 => two_that_erase(random),
-        _ => {
-            let field = random.pick(&FIELDS);
-            some_of(random, &places_of_field(field), count)
-        }
-    }
-}
-
-/// Any 54 bits.
-fn random_bits(random: &mut Random) -> [u8; 7] {
-    let mut frame = [0; 7];
-    frame.copy_from_slice(&random.next().to_be_bytes()[..7]);
-    frame[6] &= 0xFC;
-    frame
-}
-
-/// The frame of some set, with flips.
-fn random_sent_frame(random: &mut Random) -> [u8; 7] {
-    let set = random_set(random);
-    let sync = random.inside(1);
-    let mut frame = melp::frame_of(&set, sync).expect("a set in range");
-    for place in random_flips(random) {
-        melp::flip(&mut frame, place);
-    }
-    frame
-}
-
-/// The bytes handed to a receiver: mostly a frame, sometimes of another length or with its last bits set.
-fn random_received(random: &mut Random) -> Vec<u8> {
-    let mut frame = if random.once_in(8) {
-        random_bits(random)
-    } else {
-        random_sent_frame(random)
-    };
-    if random.once_in(12) {
-        frame[6] |= random.pick(&[1, 2, 3]);
-    }
-    let mut bytes = frame.to_vec();
-    if random.once_in(12) {
-        bytes.extend([random.inside(255), random.inside(255)]);
-        bytes.truncate(random.between(0, 9) as usize);
-    }
-    bytes
 }
 
 /// A record in fourteen bytes: last set, last G2, and a bit for each kind, the oldest most significant.
@@ -593,162 +403,46 @@ fn random_vector(random: &mut Random) -> Vector {
     }
 }
 
+/// First and last byte that each kind expects; in kind 2 without the index, which not every class has.
+const EXPECTED: [(usize, usize); 9] = [
+    (14, 22),
+    (2, 3),
+    (2, 3),
+    (3, 5),
+    (3, 3),
+    (4, 6),
+    (2, 4),
+    (10, 12),
+    (25, 58),
+];
+
+/// Change an expected byte: the refusal or erasure where there is one, for little else is compared then, or any.
+fn spoil_expectation(random: &mut Random, vector: &mut Vector) {
+    let (first, last) = EXPECTED[usize::from(vector[0]) - 1];
+    let other = random.between(first as i64, last as i64) as usize;
+    let at = if vector[first] != 0 { first } else { other };
+    vector[at] ^= 1;
+}
+
 /// Write so many vectors to standard output.
-fn write_vectors(count: u64, seed: u64) -> std::io::Result<()> {
+fn write_vectors(count: u64, seed: u64, spoilt: bool) -> std::io::Result<()> {
     let mut random = Random::new(seed);
     let mut output = std::io::BufWriter::new(std::io::stdout().lock());
     for _ in 0..count {
-        output.write_all(&random_vector(&mut random))?;
+        let mut vector = random_vector(&mut random);
+        if spoilt {
+            spoil_expectation(&mut random, &mut vector);
+        }
+        output.write_all(&vector)?;
     }
     output.flush()
 }
 
-// ---- Self-test: the paper's section "Examples" ----
-
-/// The frame of example 6 as the paper prints it.
-const EXAMPLE_FRAME: [u8; 7] = [0x80, 0x56, 0x0D, 0x40, 0x15, 0x00, 0x10];
-
-/// The set of example 6.
-const EXAMPLE_SET: Set = Set {
-    lsf: [90, 0, 0, 0],
-    g2: 11,
-    g1: 0,
-    voicing: None,
-};
-
-/// The frame of example 6 with some places changed.
-fn flipped(places: &[usize]) -> [u8; 7] {
-    let mut frame = EXAMPLE_FRAME;
-    places
-        .iter()
-        .for_each(|place| melp::flip(&mut frame, *place));
-    frame
-}
-
-/// Example 1: pitch codes.
-fn example_1() -> bool {
-    let classes = [
-        (0x00, PitchClass::Unvoiced),
-        (0x40, PitchClass::Unvoiced),
-        (0x60, PitchClass::Erased),
-        (0x07, PitchClass::Voiced(0)),
-        (0x70, PitchClass::Voiced(83)),
-        (0x7F, PitchClass::Voiced(98)),
-    ];
-    let codes = [(0, 0x07), (83, 0x70), (98, 0x7F)];
-    classes
-        .iter()
-        .all(|(code, class)| melp::pitch_class(*code) == Ok(*class))
-        && codes
-            .iter()
-            .all(|(index, code)| melp::pitch_code(*index) == Ok(*code))
-}
-
-/// Example 2: word A.
-fn example_2() -> bool {
-    let sent = melp::encode_word(8, &[1, 0, 1, 1]);
-    let read = |wrong: &[usize]| {
-        let mut word = sent.clone();
-        wrong.iter().for_each(|p| word[*p] = 1 - word[*p]);
-        melp::decode_word(8, &word)
-    };
-    let data = |bits: [u8; 4], repaired| WordReading::Data {
-        data: bits.to_vec(),
-        repaired,
-    };
-    sent == [1, 0, 1, 1, 0, 1, 0, 0]
-        && read(&[]) == data([1, 0, 1, 1], 0)
-        && read(&[0]) == data([1, 0, 1, 1], 1)
-        && read(&[0, 1]) == WordReading::Erased
-        && read(&[4, 5, 6]) == data([1, 0, 1, 0], 1)
-}
-
-/// Example 3: word B.
-fn example_3() -> bool {
-    melp::parity(6, &[0, 1, 0]) == [1, 0, 1]
-}
-
-/// Example 4: first levels and their choice.
-fn example_4() -> bool {
-    let second = 1860 + 402 * 11;
-    melp::first_level(11, 0, 10) == Ok(6081)
-        && melp::first_level(11, 1, 10) == Ok(4764)
-        && melp::first_level(11, 7, 10) == Ok(7398)
-        && melp::choose(6639, second, 10) == Ok((11, 0))
-        && melp::choose(6640, second, 10) == Ok((11, 5))
-}
-
-/// Example 5: the first threshold of G2.
-fn example_5() -> bool {
-    let g2 = |level| melp::choose(0, level, 0).map(|codes| codes.0);
-    g2(2061) == Ok(0) && g2(2062) == Ok(1)
-}
-
-/// Example 6: a frame packed by a fresh sender, and its line in section "Program hear".
-fn example_6() -> bool {
-    let received = melp::receive(&melp::fresh_record(), &EXAMPLE_FRAME);
-    let expected = FrameResult {
-        kind: Kind::Unvoiced,
-        set: EXAMPLE_SET,
-        first_level: 4071,
-        second_level: 6282,
-        mute: 0,
-        sync: 0,
-        repaired: 0,
-    };
-    melp::pack(&EXAMPLE_SET, 0, 7) == Ok((EXAMPLE_FRAME, 1))
-        && received.map(|(result, _)| result) == Ok(expected)
-}
-
-/// Example 7: two repairs, and two flips in word A.
-fn example_7() -> bool {
-    let receive = |places: &[usize]| melp::receive(&melp::fresh_record(), &flipped(places));
-    let repaired = receive(&[0, 6]).map(|(r, _)| (r.kind, r.set, r.repaired));
-    let erased = receive(&[0, 7]).map(|(r, _)| (r.kind, r.repaired));
-    repaired == Ok((Kind::Unvoiced, EXAMPLE_SET, 2)) && erased == Ok((Kind::Repeat, 0))
-}
-
-/// Mute bits of so many copies of a frame, received from fresh.
-fn mutes(frame: &[u8], count: usize) -> Result<Vec<u8>, Refusal> {
-    let mut record = melp::fresh_record();
-    let mut bits = Vec::new();
-    for _ in 0..count {
-        let (result, next) = melp::receive(&record, frame)?;
-        bits.push(result.mute);
-        record = next;
-    }
-    Ok(bits)
-}
-
-/// Example 9: eight erased frames, erased by the pitch code or by word A.
-fn example_9() -> bool {
-    let by_pitch = flipped(&[melp::place_of(28), melp::place_of(29)]);
-    let by_word = flipped(&[0, 7]);
-    let expected = Ok(vec![0, 0, 0, 0, 0, 0, 0, 1]);
-    mutes(&by_pitch, 8) == expected && mutes(&by_word, 8) == expected
-}
-
-/// Number of the first example that fails, if any does.
-fn first_failure() -> Option<u8> {
-    let examples: [(u8, fn() -> bool); 8] = [
-        (1, example_1),
-        (2, example_2),
-        (3, example_3),
-        (4, example_4),
-        (5, example_5),
-        (6, example_6),
-        (7, example_7),
-        (9, example_9),
-    ];
-    examples
-        .iter()
-        .find(|(_, holds)| !holds())
-        .map(|(number, _)| *number)
-}
+// ---- Program ----
 
 /// Print the outcome of the examples.
 fn selftest() -> ExitCode {
-    match first_failure() {
+    match examples::first_failure() {
         None => {
             println!("ok");
             ExitCode::SUCCESS
@@ -761,8 +455,8 @@ fn selftest() -> ExitCode {
 }
 
 /// Write the vectors and tell how it went.
-fn vectors(count: u64, seed: u64) -> ExitCode {
-    match write_vectors(count, seed) {
+fn vectors(count: u64, seed: u64, spoilt: bool) -> ExitCode {
+    match write_vectors(count, seed, spoilt) {
         Ok(()) => ExitCode::SUCCESS,
         Err(error) => {
             eprintln!("vectors: {error}");
@@ -771,20 +465,14 @@ fn vectors(count: u64, seed: u64) -> ExitCode {
     }
 }
 
-/// Tell how the program is called.
-fn usage() -> ExitCode {
-    eprintln!("usage: vectors N SEED | vectors selftest");
-    ExitCode::from(2)
-}
-
 fn main() -> ExitCode {
     let arguments: Vec<String> = std::env::args().skip(1).collect();
-    match arguments.as_slice() {
-        [word] if word == "selftest" => selftest(),
-        [count, seed] => match (count.parse(), seed.parse()) {
-            (Ok(count), Ok(seed)) => vectors(count, seed),
-            _ => usage(),
-        },
-        _ => usage(),
+    let words: Vec<&str> = arguments.iter().map(String::as_str).collect();
+    let number = |word: &str| word.parse().expect("a number");
+    match words[..] {
+        ["selftest"] => selftest(),
+        [count, seed] => vectors(number(count), number(seed), false),
+        [count, seed, "spoilt"] => vectors(number(count), number(seed), true),
+        _ => panic!("usage: vectors N SEED [spoilt] | vectors selftest"),
     }
 }

@@ -1,0 +1,144 @@
+//! Document 01's section "Examples", tried on the independent implementation; the eighth is in `spectrum.rs`.
+
+use crate::melp::{self, FrameResult, Kind, PitchClass, Refusal, Set, WordReading};
+
+/// The frame of example 6 as the document prints it.
+const EXAMPLE_FRAME: [u8; 7] = [0x80, 0x56, 0x0D, 0x40, 0x15, 0x00, 0x10];
+
+/// The set of example 6.
+const EXAMPLE_SET: Set = Set {
+    lsf: [90, 0, 0, 0],
+    g2: 11,
+    g1: 0,
+    voicing: None,
+};
+
+/// The frame of example 6 with some places changed.
+fn flipped(places: &[usize]) -> [u8; 7] {
+    let mut frame = EXAMPLE_FRAME;
+    places
+        .iter()
+        .for_each(|place| melp::flip(&mut frame, *place));
+    frame
+}
+
+/// Example 1: pitch codes.
+fn example_1() -> bool {
+    let classes = [
+        (0x00, PitchClass::Unvoiced),
+        (0x40, PitchClass::Unvoiced),
+        (0x60, PitchClass::Erased),
+        (0x07, PitchClass::Voiced(0)),
+        (0x70, PitchClass::Voiced(83)),
+        (0x7F, PitchClass::Voiced(98)),
+    ];
+    let codes = [(0, 0x07), (83, 0x70), (98, 0x7F)];
+    classes
+        .iter()
+        .all(|(code, class)| melp::pitch_class(*code) == Ok(*class))
+        && codes
+            .iter()
+            .all(|(index, code)| melp::pitch_code(*index) == Ok(*code))
+}
+
+/// Example 2: word A.
+fn example_2() -> bool {
+    let sent = melp::encode_word(8, &[1, 0, 1, 1]);
+    let read = |wrong: &[usize]| {
+        let mut word = sent.clone();
+        wrong.iter().for_each(|p| word[*p] = 1 - word[*p]);
+        melp::decode_word(8, &word)
+    };
+    let data = |bits: [u8; 4], repaired| WordReading::Data {
+        data: bits.to_vec(),
+        repaired,
+    };
+    sent == [1, 0, 1, 1, 0, 1, 0, 0]
+        && read(&[]) == data([1, 0, 1, 1], 0)
+        && read(&[0]) == data([1, 0, 1, 1], 1)
+        && read(&[0, 1]) == WordReading::Erased
+        && read(&[4, 5, 6]) == data([1, 0, 1, 0], 1)
+}
+
+/// Example 3: word B.
+fn example_3() -> bool {
+    melp::parity(6, &[0, 1, 0]) == [1, 0, 1]
+}
+
+/// Example 4: first levels and their choice.
+fn example_4() -> bool {
+    let second = 1860 + 402 * 11;
+    melp::first_level(11, 0, 10) == Ok(6081)
+        && melp::first_level(11, 1, 10) == Ok(4764)
+        && melp::first_level(11, 7, 10) == Ok(7398)
+        && melp::choose(6639, second, 10) == Ok((11, 0))
+        && melp::choose(6640, second, 10) == Ok((11, 5))
+}
+
+/// Example 5: the first threshold of G2.
+fn example_5() -> bool {
+    let g2 = |level| melp::choose(0, level, 0).map(|codes| codes.0);
+    g2(2061) == Ok(0) && g2(2062) == Ok(1)
+}
+
+/// Example 6: a frame packed by a fresh sender, and its line in section "Program hear".
+fn example_6() -> bool {
+    let received = melp::receive(&melp::fresh_record(), &EXAMPLE_FRAME);
+    let expected = FrameResult {
+        kind: Kind::Unvoiced,
+        set: EXAMPLE_SET,
+        first_level: 4071,
+        second_level: 6282,
+        mute: 0,
+        sync: 0,
+        repaired: 0,
+    };
+    melp::pack(&EXAMPLE_SET, 0, 7) == Ok((EXAMPLE_FRAME, 1))
+        && received.map(|(result, _)| result) == Ok(expected)
+}
+
+/// Example 7: two repairs, and two flips in word A.
+fn example_7() -> bool {
+    let receive = |places: &[usize]| melp::receive(&melp::fresh_record(), &flipped(places));
+    let repaired = receive(&[0, 6]).map(|(r, _)| (r.kind, r.set, r.repaired));
+    let erased = receive(&[0, 7]).map(|(r, _)| (r.kind, r.repaired));
+    repaired == Ok((Kind::Unvoiced, EXAMPLE_SET, 2)) && erased == Ok((Kind::Repeat, 0))
+}
+
+/// Mute bits of so many copies of a frame, received from fresh.
+fn mutes(frame: &[u8], count: usize) -> Result<Vec<u8>, Refusal> {
+    let mut record = melp::fresh_record();
+    let mut bits = Vec::new();
+    for _ in 0..count {
+        let (result, next) = melp::receive(&record, frame)?;
+        bits.push(result.mute);
+        record = next;
+    }
+    Ok(bits)
+}
+
+/// Example 9: eight erased frames, erased by the pitch code or by word A.
+fn example_9() -> bool {
+    let by_pitch = flipped(&[melp::place_of(28), melp::place_of(29)]);
+    let by_word = flipped(&[0, 7]);
+    let expected = Ok(vec![0, 0, 0, 0, 0, 0, 0, 1]);
+    mutes(&by_pitch, 8) == expected && mutes(&by_word, 8) == expected
+}
+
+/// Number of the first example that fails, if any does.
+pub fn first_failure() -> Option<u8> {
+    let examples: [(u8, fn() -> bool); 8] = [
+        (1, example_1),
+        (2, example_2),
+        (3, example_3),
+        (4, example_4),
+        (5, example_5),
+        (6, example_6),
+        (7, example_7),
+        (9, example_9),
+    ];
+    examples
+        .iter()
+        .find(|(_, holds)| !holds())
+        .map(|(number, _)| *number)
+}
