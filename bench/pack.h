@@ -1,0 +1,69 @@
+/* Packing a parameter set into a frame. */
+#ifndef PACK_H
+#define PACK_H
+
+#include <string.h>
+
+#include "melp.h"
+
+/* Pitch code of each index: the codes with at least three ones, rising. */
+static const uint8_t CODE[99] = {
+    7,   11,  13,  14,  15,  19,  21,  22,  23,  25,  26,  27,  28,  29,  30,  31,  35,
+    37,  38,  39,  41,  42,  43,  44,  45,  46,  47,  49,  50,  51,  52,  53,  54,  55,
+    56,  57,  58,  59,  60,  61,  62,  63,  67,  69,  70,  71,  73,  74,  75,  76,  77,
+    78,  79,  81,  82,  83,  84,  85,  86,  87,  88,  89,  90,  91,  92,  93,  94,  95,
+    97,  98,  99,  100, 101, 102, 103, 104, 105, 106, 107, 108, 109, 110, 111, 112, 113,
+    114, 115, 116, 117, 118, 119, 120, 121, 122, 123, 124, 125, 126, 127,
+};
+
+/* What the parity places of words A to D carry. */
+static inline void carried_bits(const struct parameter_set *set, const unsigned data[4],
+                                unsigned carried[4])
+{
+    if (set->voiced) {
+        carried[0] = set->bandpass;
+        carried[1] = set->fourier >> 5;
+        carried[2] = set->fourier >> 2 & 7;
+        carried[3] = (set->fourier & 3u) << 1 | set->aperiodic;
+    } else {
+        carried[0] = PARITY[data[0]];
+        carried[1] = PARITY[data[1] << 1] >> 1;
+        carried[2] = PARITY[data[2]] >> 1;
+        carried[3] = PARITY[data[3]] >> 1;
+    }
+}
+
+/* The logical bits of a set in range, bit 0 the most significant of 54. */
+static inline uint64_t set_bits(const struct parameter_set *set, bool sync)
+{
+    const unsigned data[4] = {set->lsf[0] >> 3, set->lsf[0] & 7, set->g2 >> 1,
+                              (set->g2 & 1u) << 3 | set->g1};
+    unsigned carried[4];
+    carried_bits(set, data, carried);
+    uint64_t bits = data[0] << 4 | carried[0];
+    bits = bits << 6 | data[1] << 3 | carried[1];
+    bits = bits << 7 | data[2] << 3 | carried[2];
+    bits = bits << 7 | data[3] << 3 | carried[3];
+    bits = bits << 7 | (set->voiced ? CODE[set->pitch] : 0);
+    for (int i = 1; i < 4; i++)
+        bits = bits << 6 | set->lsf[i];
+    return bits << 1 | sync;
+}
+
+/* Flips the bit at a place. */
+static inline void flip(uint8_t *frame, unsigned place)
+{
+    frame[place / 8] ^= (uint8_t)(0x80 >> place % 8);
+}
+
+/* The frame of a set that a sender takes. */
+static inline void pack(const struct parameter_set *set, bool sync, uint8_t *frame)
+{
+    uint64_t bits = set_bits(set, sync);
+    memset(frame, 0, FRAME_BYTES);
+    for (int j = 0; j < FRAME_BITS; j++)
+        if (bits >> (FRAME_BITS - 1 - j) & 1)
+            flip(frame, PLACE[j]);
+}
+
+#endif

@@ -1,0 +1,106 @@
+/* What plain and tuned C do differently, the plain way: unpacking, pitch code, repair, kinds, two digits. */
+#ifndef PLAIN_H
+#define PLAIN_H
+
+#include "melp.h"
+
+/* The logical bits of a frame, bit 0 the most significant of 54, each from its place. */
+static inline uint64_t logical_bits(const uint8_t *frame)
+{
+    uint64_t bits = 0;
+    for (int j = 0; j < FRAME_BITS; j++) {
+        unsigned place = PLACE[j];
+        bits = bits << 1 | (frame[place / 8] >> (7 - place % 8) & 1);
+    }
+    return bits;
+}
+
+/* Of each pitch code how many smaller ones have at least three ones: its index where it is voiced. */
+static const uint8_t PITCH_INDEX[128] = {
+    0,  0,  0,  0,  0,  0,  0,  0,  1,  1,  1,  1,  2,  2,  3,  4,
+    5,  5,  5,  5,  6,  6,  7,  8,  9,  9,  10, 11, 12, 13, 14, 15,
+    16, 16, 16, 16, 17, 17, 18, 19, 20, 20, 21, 22, 23, 24, 25, 26,
+    27, 27, 28, 29, 30, 31, 32, 33, 34, 35, 36, 37, 38, 39, 40, 41,
+    42, 42, 42, 42, 43, 43, 44, 45, 46, 46, 47, 48, 49, 50, 51, 52,
+    53, 53, 54, 55, 56, 57, 58, 59, 60, 61, 62, 63, 64, 65, 66, 67,
+    68, 68, 69, 70, 71, 72, 73, 74, 75, 76, 77, 78, 79, 80, 81, 82,
+    83, 84, 85, 86, 87, 88, 89, 90, 91, 92, 93, 94, 95, 96, 97, 98,
+};
+
+/* The class of a pitch code from its count of ones, or its index. */
+static inline uint8_t read_pitch(unsigned code)
+{
+    int ones = __builtin_popcount(code);
+    if (ones < 2)
+        return PITCH_UNVOICED;
+    return ones == 2 ? PITCH_ERASED : PITCH_INDEX[code];
+}
+
+/* Syndrome of a word of `length` bits. The longest has four parity bits, the others three; the fourth
+   data bit of the shortest is the spare 0. */
+static inline unsigned syndrome(unsigned word, unsigned length)
+{
+    if (length == 8)
+        return (word & 15) ^ PARITY[word >> 4];
+    return (word & 7) ^ PARITY[length == 6 ? word >> 3 << 1 : word >> 3] >> 1;
+}
+
+/* Marks in the table below: no bit to flip, and a frame erased. */
+enum { STANDS = 8, ERASES = 9 };
+
+/* The bit to flip by syndrome, counted from the word's first, for words of six, seven and eight bits. */
+static const uint8_t FLIP[3][16] = {
+    {STANDS, 5, 4, 2, 3, 1, 0, STANDS},
+    {STANDS, 6, 5, 2, 4, 1, 0, 3},
+    {STANDS, 7, 6, ERASES, 5, ERASES, ERASES, 2, 4, ERASES, ERASES, 1, ERASES, 0, 3, ERASES},
+};
+
+/* The data of a word of `length` bits, repaired, or false where it erases the frame. Adds to `repaired`. */
+static inline bool repair(unsigned word, unsigned length, unsigned *data, unsigned *repaired)
+{
+    uint8_t bit = FLIP[length - 6][syndrome(word, length)];
+    if (bit == ERASES)
+        return false;
+    if (bit != STANDS) {
+        word ^= 1u << (length - 1 - bit);
+        ++*repaired;
+    }
+    *data = word >> (length == 8 ? 4 : 3);
+    return true;
+}
+
+/* The data of words A to D, repaired; false where A erases the frame. Adds to `repaired`. */
+static inline bool repair_words(uint64_t bits, unsigned data[4], unsigned *repaired)
+{
+    return repair(field(bits, WORD_A, 8), 8, &data[0], repaired) &&
+           repair(field(bits, WORD_B, 6), 6, &data[1], repaired) &&
+           repair(field(bits, WORD_C, 7), 7, &data[2], repaired) &&
+           repair(field(bits, WORD_D, 7), 7, &data[3], repaired);
+}
+
+/* The kinds of the latest 16 frames, oldest first. */
+struct kinds {
+    bool is_repeat[16];
+};
+
+/* Puts a kind in as the latest; whether at least half of the 16 are repeats. */
+static inline bool push_kind(struct kinds *kinds, bool is_repeat)
+{
+    for (int i = 0; i < 15; i++)
+        kinds->is_repeat[i] = kinds->is_repeat[i + 1];
+    kinds->is_repeat[15] = is_repeat;
+    int repeats = 0;
+    for (int i = 0; i < 16; i++)
+        repeats += kinds->is_repeat[i];
+    return repeats >= 8;
+}
+
+/* Puts a number below 100 at `out` in two digits; the end of them. */
+static inline char *put_pair(char *out, unsigned n)
+{
+    out[0] = (char)('0' + n / 10);
+    out[1] = (char)('0' + n % 10);
+    return out + 2;
+}
+
+#endif

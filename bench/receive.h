@@ -1,0 +1,159 @@
+/* Receiving a frame: repair, erasure and repeat, gain levels, mute. Unpacking, the pitch
+   code, repair of the words and the latest kinds come from plain.h, or where TUNED is set from tuned.h. */
+#ifndef RECEIVE_H
+#define RECEIVE_H
+
+#ifdef TUNED
+#include "tuned.h"
+#else
+#include "plain.h"
+#endif
+
+enum kind { UNVOICED, VOICED, REPEAT };
+
+/* Numbers of the refusals; 0 is none. */
+enum refusal { NOT_REFUSED = 0, REFUSED_LENGTH = 2, REFUSED_PADDING = 3, REFUSED_RECORD = 4 };
+
+/* What a receiver keeps. */
+struct record {
+    struct parameter_set last;
+    uint8_t g2;
+    struct kinds kinds;
+};
+
+/* What a frame yields; levels in units of 1/186 dB. */
+struct result {
+    enum kind kind;
+    struct parameter_set set;
+    unsigned first_level;
+    unsigned second_level;
+    bool mute;
+    bool sync;
+    uint8_t repaired;
+};
+
+/* The LSF indices and gain codes from the data of words A to D and the unprotected fields. */
+static inline void read_indices(uint64_t bits, const unsigned data[4], struct parameter_set *set)
+{
+    set->lsf[0] = (uint8_t)(data[0] << 3 | data[1]);
+    set->lsf[1] = (uint8_t)field(bits, LSF_2, 6);
+    set->lsf[2] = (uint8_t)field(bits, LSF_3, 6);
+    set->lsf[3] = (uint8_t)field(bits, LSF_4, 6);
+    set->g2 = (uint8_t)(data[2] << 1 | data[3] >> 3);
+    set->g1 = data[3] & 7;
+}
+
+/* A voiced frame: no word is checked, and the parity places carry the voicing. */
+static inline void read_voiced(uint64_t bits, uint8_t pitch, struct parameter_set *set)
+{
+    const unsigned data[4] = {field(bits, WORD_A, 4), field(bits, WORD_B, 3),
+                              field(bits, WORD_C, 4), field(bits, WORD_D, 4)};
+    read_indices(bits, data, set);
+    set->voiced = true;
+    set->pitch = pitch;
+    set->bandpass = (uint8_t)field(bits, WORD_A + 4, 4);
+    set->fourier = (uint8_t)(field(bits, WORD_B + 3, 3) << 5 | field(bits, WORD_C + 4, 3) << 2 |
+                             field(bits, WORD_D + 4, 2));
+    set->aperiodic = (uint8_t)field(bits, WORD_D + 6, 1);
+}
+
+/* An unvoiced frame: false where it is erased; repaired words are added to `repaired`. */
+static inline bool read_unvoiced(uint64_t bits, struct parameter_set *set, unsigned *repaired)
+{
+    unsigned data[4];
+    if (!repair_words(bits, data, repaired))
+        return false;
+    read_indices(bits, data, set);
+    set->voiced = false;
+    return true;
+}
+
+/* Reads a frame's bits into the result's kind, set and repaired count. */
+static inline void read_frame(uint64_t bits, struct result *result)
+{
+    unsigned code = field(bits, PITCH_CODE, 7), repaired = code != 0;
+    uint8_t pitch = read_pitch(code);
+    result->kind = REPEAT;
+    result->repaired = 0;
+    if (pitch < PITCH_UNVOICED) {
+        read_voiced(bits, pitch, &result->set);
+        result->kind = VOICED;
+    } else if (pitch == PITCH_UNVOICED && read_unvoiced(bits, &result->set, &repaired)) {
+        result->repaired = (uint8_t)repaired;
+        result->kind = UNVOICED;
+    }
+}
+
+/* Level of a second gain index. */
+static inline unsigned gain_level(unsigned g2)
+{
+    return 1860 + 402 * g2;
+}
+
+/* First level of a frame by its gain codes and `q`, the G2 accepted before. */
+static inline unsigned first_gain_level(unsigned g2, unsigned code, unsigned q)
+{
+    unsigned lower = g2 < q ? g2 : q, higher = g2 < q ? q : g2;
+    if (code == 0)
+        return (gain_level(lower) + gain_level(higher)) / 2;
+    return gain_level(lower) - 1116 + (code - 1) * (67 * (higher - lower) + 372);
+}
+
+/* Levels of an accepted frame, whose set and G2 the record then keeps. */
+static inline void accept(struct record *record, struct result *result)
+{
+    const struct parameter_set *set = &result->set;
+    result->first_level = first_gain_level(set->g2, set->g1, record->g2);
+    result->second_level = gain_level(set->g2);
+    record->last = *set;
+    record->g2 = set->g2;
+}
+
+/* Set and levels of a repeat: the last ones accepted. */
+static inline void repeat(const struct record *record, struct result *result)
+{
+    result->set = record->last;
+    result->first_level = result->second_level = gain_level(record->g2);
+}
+
+/* Whether every field is in its range. Bandpass bits 0001 are, since a receiver may hear them. */
+static inline bool set_in_range(const struct parameter_set *set)
+{
+    if (set->lsf[0] > 127 || set->lsf[1] > 63 || set->lsf[2] > 63 || set->lsf[3] > 63)
+        return false;
+    if (set->g2 > 31 || set->g1 > 7)
+        return false;
+    return !set->voiced || (set->pitch <= 98 && set->bandpass <= 15 && set->aperiodic <= 1);
+}
+
+/* The first refusal that applies. */
+static inline enum refusal check(const struct record *record, const uint8_t *frame, size_t length)
+{
+    if (length != FRAME_BYTES)
+        return REFUSED_LENGTH;
+    if (frame[FRAME_BYTES - 1] & 3)
+        return REFUSED_PADDING;
+    if (!set_in_range(&record->last) || record->g2 > 31)
+        return REFUSED_RECORD;
+    return NOT_REFUSED;
+}
+
+/* Takes a frame: the result and the record after it, or a refusal that changes neither. */
+static inline enum refusal receive(struct record *record, const uint8_t *frame, size_t length,
+                                   struct result *result)
+{
+    enum refusal refusal = check(record, frame, length);
+    if (refusal != NOT_REFUSED)
+        return refusal;
+    uint64_t bits = logical_bits(frame);
+    read_frame(bits, result);
+    if (result->kind == REPEAT)
+        repeat(record, result);
+    else
+        accept(record, result);
+    result->mute = push_kind(&record->kinds, result->kind == REPEAT);
+    result->sync = field(bits, SYNC, 1);
+    return NOT_REFUSED;
+}
+
+#endif

@@ -1,0 +1,95 @@
+/* What plain and tuned C do differently, the tuned way; plain.h says what each function is for. */
+#ifndef TUNED_H
+#define TUNED_H
+
+#include <string.h>
+
+#include "melp.h"
+
+/* The logical bits of a frame, bit 0 the most significant of 54. The frame is made one number, place 0
+   its most significant bit, so that a shift by a place brings the bit there to the front. */
+static inline uint64_t logical_bits(const uint8_t *frame)
+{
+    uint64_t placed = 0, bits = 0;
+    for (int i = 0; i < FRAME_BYTES; i++)
+        placed |= (uint64_t)frame[i] << (56 - 8 * i);
+    for (int j = 0; j < FRAME_BITS; j++)
+        bits = bits << 1 | placed << PLACE[j] >> 63;
+    return bits;
+}
+
+/* Marks in the tables below: an unvoiced and an erased pitch code, a word that erases its frame. */
+enum { U = PITCH_UNVOICED, E = PITCH_ERASED, X = 0x80 };
+
+/* Class or index of each pitch code. */
+static const uint8_t PITCH[128] = {
+    U, U,  U,  E,  U,  E,  E,  0,  U,  E,  E,  1,  E,  2,  3,  4,
+    U, E,  E,  5,  E,  6,  7,  8,  E,  9,  10, 11, 12, 13, 14, 15,
+    U, E,  E,  16, E,  17, 18, 19, E,  20, 21, 22, 23, 24, 25, 26,
+    E, 27, 28, 29, 30, 31, 32, 33, 34, 35, 36, 37, 38, 39, 40, 41,
+    U, E,  E,  42, E,  43, 44, 45, E,  46, 47, 48, 49, 50, 51, 52,
+    E, 53, 54, 55, 56, 57, 58, 59, 60, 61, 62, 63, 64, 65, 66, 67,
+    E, 68, 69, 70, 71, 72, 73, 74, 75, 76, 77, 78, 79, 80, 81, 82,
+    83, 84, 85, 86, 87, 88, 89, 90, 91, 92, 93, 94, 95, 96, 97, 98,
+};
+
+static inline uint8_t read_pitch(unsigned code)
+{
+    return PITCH[code];
+}
+
+/* Data bits to flip by syndrome, u0 most significant; a wrong parity bit asks for none. */
+static const uint8_t FLIP[8] = {0, 0, 0, 2, 0, 4, 8, 1};
+
+/* The same for word A, whose even syndromes erase the frame. */
+static const uint8_t FLIP_A[16] = {0, 0, 0, X, 0, X, X, 2, 0, X, X, 4, X, 8, 1, X};
+
+/* Syndrome of a word with three parity bits. */
+static inline unsigned syndrome(unsigned data, unsigned parity)
+{
+    return parity ^ PARITY[data] >> 1;
+}
+
+/* The words one beside the other, flipped and counted without a branch. */
+static inline bool repair_words(uint64_t bits, unsigned data[4], unsigned *repaired)
+{
+    unsigned a = field(bits, WORD_A, 4), b = field(bits, WORD_B, 3) << 1;
+    unsigned c = field(bits, WORD_C, 4), d = field(bits, WORD_D, 4);
+    unsigned in_a = field(bits, WORD_A + 4, 4) ^ PARITY[a];
+    if (FLIP_A[in_a] == X)
+        return false;
+    unsigned in_b = syndrome(b, field(bits, WORD_B + 3, 3));
+    unsigned in_c = syndrome(c, field(bits, WORD_C + 4, 3));
+    unsigned in_d = syndrome(d, field(bits, WORD_D + 4, 3));
+    data[0] = a ^ FLIP_A[in_a];
+    data[1] = (b ^ FLIP[in_b]) >> 1; /* The spare falls off, and its syndrome 7 repairs nothing. */
+    data[2] = c ^ FLIP[in_c];
+    data[3] = d ^ FLIP[in_d];
+    *repaired += (in_a != 0) + (in_b != 0 && in_b != 7) + (in_c != 0) + (in_d != 0);
+    return true;
+}
+
+/* The kinds of the latest 16 frames: a bit for each, 1 for a repeat, the oldest most significant. */
+struct kinds {
+    uint16_t repeats;
+};
+
+static inline bool push_kind(struct kinds *kinds, bool is_repeat)
+{
+    kinds->repeats = (uint16_t)(kinds->repeats << 1 | is_repeat);
+    return __builtin_popcount(kinds->repeats) >= 8;
+}
+
+/* The numbers from 0 to 99 in two digits each. */
+static const char PAIRS[] = "00010203040506070809101112131415161718192021222324"
+                            "25262728293031323334353637383940414243444546474849"
+                            "50515253545556575859606162636465666768697071727374"
+                            "75767778798081828384858687888990919293949596979899";
+
+static inline char *put_pair(char *out, unsigned n)
+{
+    memcpy(out, PAIRS + 2 * n, 2);
+    return out + 2;
+}
+
+#endif
