@@ -1,3 +1,3 @@
 pub mod Taken
-pub mod Waiting
+pub mod Pending
 pub mod Shown

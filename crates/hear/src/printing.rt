@@ -37,9 +37,9 @@ fn make_room(before: Progress, bytes: &[u8], k: usize, out: &[u8]) -> Progress
 
 // All whole frames; the first line waits in the buffer.
 fn print_frames(bytes: &[u8], out: &mut [u8], end: usize) -> Progress
-    requires { ⌜ (length (now bytes) ≤ 65534) × (length (now out) ≡ 65536) × (end ≡ 22) × Pending (textBefore (now bytes) 0) 0 end (now out) ⌝ }
+    requires { ⌜ (length (now bytes) ≤ 65534) × (length (now out) ≡ 65536) × Pending (textBefore (now bytes) 0) 0 end (now out) ⌝ }
     ensures counted { λ r. ⌜ (r .repeats ≡ repeatsBefore (now (bytes .entry)) (framesIn (now (bytes .entry)))) × (r .sent + r .end ≤ 1400000) ⌝ }
-    ensures waits { λ r. ⌜ Pending (textBefore (now (bytes .entry)) (framesIn (now (bytes .entry)))) (r .sent) (r .end) (now (out .exit))
+    ensures pending { λ r. ⌜ Pending (textBefore (now (bytes .entry)) (framesIn (now (bytes .entry)))) (r .sent) (r .end) (now (out .exit))
         × (r .end ≤ 65536) ⌝ }
 {
     let mut progress = Progress {

@@ -1,4 +1,4 @@
-// The receiver: its record, and what a frame yields and leaves.
+// The receiver: what a frame yields, and the record that it leaves.
 //
 //   steps      what an accepted frame and a repeat yield
 //   receiving  the calls that take a frame

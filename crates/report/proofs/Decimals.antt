@@ -2,7 +2,7 @@
 use mathlib.Core.Path.{_≡_, refl, ap, _∙_}
 use mathlib.Core.Bool.{Bool, true, false, cond}
 use mathlib.Core.List.{List, [], _∷_, _++_, append-assoc}
-use Prim.Native.Nat.{ℕ, zero, suc, _*_, _/_, _%_, _^_, _≤_, _<_}
+use Prim.Native.Nat.{ℕ, zero, suc, _+_, _*_, _/_, _%_, _^_, _≤_, _<_}
 use native.Mathlib.Nat.{pow-suc}
 use native.Mathlib.Omega.{arith}
 use lib.Dec.{ltb}
@@ -56,3 +56,7 @@ decimal-length (suc k) n h =
     go : (t : Bool) → ltb n 10 ≡ t → length (decimal (n / 10)) ≤ suc k → length (decimal n) ≤ suc (suc k)
     go true e i = rw (decimal-one n (ltb-true n 10 e)) (omega arith)
     go false e i = rw (decimal-more n (ltb-false n 10 e), length-append (decimal (n / 10)) (glyph (n % 10) ∷ [])) (omega arith)
+
+-- a name and such a number after it
+pub named-length : (k n : ℕ) (name : List ℕ) → n < 10 ^ suc k → length (name ++ decimal n) ≤ length name + suc k
+named-length k n name h = rw (length-append name (decimal n)) (omega (arith, decimal-length k n h))

@@ -38,16 +38,16 @@ setText (Voiced x v) =
     ++ field " ap=" (decimal (v .aperiodic))
 
 -- a result: kind, set and levels
-unfoldable pub soundText : FrameResult → List ℕ
-soundText r =
+unfoldable pub parametersText : FrameResult → List ℕ
+parametersText r =
     field " kind=" (letter (r .kind)) ++ setText (r .set) ++ field " g1=" (decimal (r .first)) ++ field " g2=" (decimal (r .second))
 
 -- then sync bit, repaired count and mute
-unfoldable pub notesText : FrameResult → List ℕ
-notesText r = field " sync=" (flag (r .sync)) ++ field " fixed=" (decimal (r .repaired)) ++ field " mute=" (flag (r .mute))
+unfoldable pub statusText : FrameResult → List ℕ
+statusText r = field " sync=" (flag (r .sync)) ++ field " fixed=" (decimal (r .repaired)) ++ field " mute=" (flag (r .mute))
 
 unfoldable pub resultText : FrameResult → List ℕ
-resultText r = soundText r ++ notesText r
+resultText r = parametersText r ++ statusText r
 
 -- what a frame was answered
 abbrev pub answerText : ReceiveAnswer → List ℕ

@@ -21,7 +21,7 @@ unfoldable pub digits : ℕ → ℕ → List ℕ
 digits zero n = []
 digits (suc k) n = cond (ltb n 10) (glyph n ∷ []) (digits k (n / 10) ++ (glyph (n % 10) ∷ []))
 
--- a number in decimal, with no zero in front of another digit; it has fewer digits than its value, but for one digit of 0
+-- a number in decimal, with no zero in front of another digit; no n has more than n + 1 digits
 unfoldable pub decimal : ℕ → List ℕ
 decimal n = digits (suc n) n
 
@@ -39,6 +39,6 @@ abbrev pub flag : Bool → List ℕ
 flag true = ascii "1"
 flag false = ascii "0"
 
--- a name with what is said of it
+-- a name and the text after it
 abbrev pub field : String → List ℕ → List ℕ
 field name text = ascii name ++ text

@@ -11,7 +11,7 @@ ghost use mathlib.Core.List.{_++_};
 ghost use lib.ListN.{length};
 ghost use Rattle.sets.specs.declared.ParameterSet.the-variants.{Unvoiced, Voiced};
 ghost use Rattle.report.specs.Text.{decimal, flag, field};
-ghost use Rattle.report.specs.Lines.{letter, lsfText, setText, soundText, notesText, resultText};
+ghost use Rattle.report.specs.Lines.{letter, lsfText, setText, parametersText, statusText, resultText};
 ghost use Rattle.report.specs.Placing.{Appended};
 
 // A name, and a number after it.
@@ -117,9 +117,9 @@ fn write_set(set: ParameterSet, out: &mut [u8], at: usize) -> usize
 }
 
 // Kind, set and levels.
-fn write_sound(result: FrameResult, out: &mut [u8], at: usize) -> usize
+fn write_parameters(result: FrameResult, out: &mut [u8], at: usize) -> usize
     requires { ⌜ at + 86 ≤ length (now out) ⌝ }
-    ensures { λ r. ⌜ Appended (now (out .entry)) at (soundText result) (now (out .exit)) r × (r ≤ at + 86) ⌝ }
+    ensures { λ r. ⌜ Appended (now (out .entry)) at (parametersText result) (now (out .exit)) r × (r ≤ at + 86) ⌝ }
 {
     let kind = result.kind;
     let set = result.set;
@@ -130,9 +130,9 @@ fn write_sound(result: FrameResult, out: &mut [u8], at: usize) -> usize
 }
 
 // Sync bit, repaired count and mute.
-fn write_notes(result: FrameResult, out: &mut [u8], at: usize) -> usize
+fn write_status(result: FrameResult, out: &mut [u8], at: usize) -> usize
     requires { ⌜ at + 24 ≤ length (now out) ⌝ }
-    ensures { λ r. ⌜ Appended (now (out .entry)) at (notesText result) (now (out .exit)) r × (r ≤ at + 24) ⌝ }
+    ensures { λ r. ⌜ Appended (now (out .entry)) at (statusText result) (now (out .exit)) r × (r ≤ at + 24) ⌝ }
 {
     let sync = write_flag(b" sync=", result.sync, out, at);
     let repaired = write_byte(b" fixed=", result.repaired, out, sync);
@@ -144,6 +144,6 @@ pub(crate) fn write_result(result: FrameResult, out: &mut [u8], at: usize) -> us
     requires { ⌜ at + 110 ≤ length (now out) ⌝ }
     ensures { λ r. ⌜ Appended (now (out .entry)) at (resultText result) (now (out .exit)) r × (r ≤ at + 110) ⌝ }
 {
-    let sound = write_sound(result, out, at);
-    write_notes(result, out, sound)
+    let parameters = write_parameters(result, out, at);
+    write_status(result, out, parameters)
 }

@@ -32,7 +32,7 @@ pub fn frame_line(k: u64, answer: ReceiveAnswer, out: &mut [u8], at: usize) -> L
     let mut line = [0u8; 144];
     let name = append(b"frame=", &mut line, 0);
     let number = write_decimal(k, &mut line, name);
-    let said = write_answer(answer, &mut line, number);
-    let end = append(b"\n", &mut line, said);
+    let answered = write_answer(answer, &mut line, number);
+    let end = append(b"\n", &mut line, answered);
     place(&line[..end], out, at)
 }

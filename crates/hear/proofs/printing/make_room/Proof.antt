@@ -5,7 +5,7 @@ use Prim.Native.Nat.{ℕ}
 use native.Mathlib.Omega.{arith}
 use lib.ListN.{take, drop}
 use Rattle.hear.specs.Call.{textBefore}
-use Rattle.hear.proofs.Waiting.{waits-none, waits-next, text-goes-on}
+use Rattle.hear.proofs.Pending.{pending-none, pending-next, text-goes-on}
 use borrow.Author.Needs.{needs}
 use Rattle.hear.proofs.printing.make_room.Statement.{statement}
 use Rattle.hear.proofs.printing.make_room.Tie as tie
@@ -19,7 +19,7 @@ send-requires c κs =
     let a = s .args in
     let b = a .before in
     let g = text-goes-on (a .bytes .now) (a .k) (s .pre .0 .0) in
-    let n = waits-next (textBefore (a .bytes .now) (a .k)) (b .sent) (b .end) (a .out .now) (s .pre .0 .1) (g .0) in
+    let n = pending-next (textBefore (a .bytes .now) (a .k)) (b .sent) (b .end) (a .out .now) (s .pre .0 .1) (g .0) in
     (omega (arith, s .pre .1), n ∙ ap (λ (l : List ℕ). take (b .end) (drop (b .sent) l)) (sym (g .1)), s .pre .1 .2)
 
 returns-2 : tie.Need-returns-2
@@ -27,7 +27,7 @@ returns-2 c =
     let s = c .before .before .before .before .before .before in
     let a = s .args in
     let b = a .before in
-    let w = waits-none (textBefore (a .bytes .now) (a .k)) (b .sent) (b .end) (a .out .now) (s .pre .0 .1) in
+    let w = pending-none (textBefore (a .bytes .now) (a .k)) (b .sent) (b .end) (a .out .now) (s .pre .0 .1) in
     ((refl, refl), (rw (c .send .ensures) w, omega arith))
 
 pub make-room-spec : {M : Type 1} → statement M

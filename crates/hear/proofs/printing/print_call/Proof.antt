@@ -7,7 +7,7 @@ use lib.ListN.{length, take, drop}
 use Rattle.report.specs.Lines.{firstLine, lastLine}
 use Rattle.hear.specs.Call.{framesIn, leftIn, textBefore, repeatsBefore, text, Pending}
 use Rattle.report.proofs.Added.{line-added}
-use Rattle.hear.proofs.Waiting.{waits-more, waits-next}
+use Rattle.hear.proofs.Pending.{pending-more, pending-next}
 use borrow.Author.Needs.{needs}
 use Rattle.hear.proofs.printing.print_call.Statement.{statement}
 use Rattle.hear.proofs.printing.print_call.Tie as tie
@@ -35,7 +35,7 @@ whole c =
     let count : m .make-room .result .repeats ≡ repeatsBefore bytes n = r .0 .1 ∙ p .print-frames .ensures .0 .0 in
     let last = lastLine n (m .make-room .result .repeats) (leftIn bytes) in
     let q = line-added last _ _ (m .make-room .result .end) 144 _ _ (l .last-line .ensures) (c .end-of2 .ensures) (omega (arith, r .1 .1)) in
-    (waits-more (textBefore bytes n) _ _ _ (r .1 .0) _ _ _ (rw count at (q .0)), q .1)
+    (pending-more (textBefore bytes n) _ _ _ (r .1 .0) _ _ _ (rw count at (q .0)), q .1)
 
 first-line-requires : tie.Need-first-line-requires
 first-line-requires c κs = search needs
@@ -52,7 +52,7 @@ print-frames-requires c κs =
     let size : length firstLine ≤ 22 = omega arith in
     let w = f .first-line .ensures in
     let q = line-added firstLine (s .args .out .now) _ 0 22 _ _ (w .0, w .1, size) (e .end-of .ensures) (omega (arith, s .pre)) in
-    (s .pre .0, search needs, omega (arith, q .0 .0), (omega (arith, q .0 .0), q .0 .1))
+    (s .pre .0, search needs, (omega (arith, q .0 .0), q .0 .1))
 
 make-room-requires : tie.Need-make-room-requires
 make-room-requires c κs = search needs
@@ -76,7 +76,7 @@ send-requires c κs =
     let size : length (e .before .before .before .last-line .last .1 .1 .1 .0) ≡ 65536 =
     e .before .before .before .last-line .kept .1 .1 .1 .0 ∙ p .print-frames .kept .1 .0 ∙ g .first-line .kept .0 ∙ s .pre .1 in
     let t = text (s .args .bytes .now) in
-    let n = waits-next t (m .make-room .result .sent) (e .end-of2 .result) _ (w .0) [] in
+    let n = pending-next t (m .make-room .result .sent) (e .end-of2 .result) _ (w .0) [] in
     let all = ap (λ (l : List ℕ). take (e .end-of2 .result) (drop (m .make-room .result .sent) l)) (append-nil t) in
     (omega (arith, w .1, r .1 .1, size), n ∙ all, omega (arith, w .1, r .1 .0 .0, f .1 .0 .0, f .0 .1))
 

@@ -5,7 +5,7 @@ use native.Mathlib.Numerals.{add-one}
 use native.Mathlib.Omega.{arith}
 use lib.ListN.{length}
 use Rattle.hear.specs.Call.{answerAt, repeatOf, recordAfter, textBefore, repeatsBefore, Pending}
-use Rattle.hear.proofs.Waiting.{waits-more}
+use Rattle.hear.proofs.Pending.{pending-more}
 use borrow.Author.Needs.{needs}
 use Rattle.hear.proofs.printing.print_frames.Statement.{statement}
 use Rattle.hear.proofs.printing.print_frames.Tie as tie
@@ -26,7 +26,7 @@ loop-holds : tie.Need-loop-holds Inv-loop μ-loop
 unfolding recordAfter textBefore repeatsBefore
 loop-holds c =
     let s = c .before .before .before in
-    ((refl, omega arith, refl), (c .fresh .ensures, refl, omega arith), (s .pre .3, omega arith, omega arith))
+    ((refl, omega arith, refl), (c .fresh .ensures, refl, omega arith), (s .pre .2, omega (arith, s .pre .2 .0), omega (arith, s .pre .2 .0)))
 
 make-room-requires : tie.Need-make-room-requires Inv-loop μ-loop
 make-room-requires c κs = search needs
@@ -55,7 +55,7 @@ loop-again c =
     let r = m .make-room .ensures in
     let n : m .make-room .result .repeats + repeatOf (answerAt bytes (L .k)) ≡ repeatsBefore bytes (suc (L .k)) =
     ap (λ n. n + repeatOf (answerAt bytes (L .k))) (r .0 .1 ∙ L .inv .1 .1) in
-    let w = waits-more (textBefore bytes (L .k)) _ _ _ (r .1 .0) _ _ _ (f .1 .0) in
+    let w = pending-more (textBefore bytes (L .k)) _ _ _ (r .1 .0) _ _ _ (f .1 .0) in
     rw add-one (
       (L .inv .0 .0, omega arith, search needs),
       (f .0 .0, f .0 .1 ∙ n, f .1 .2),

@@ -1,8 +1,6 @@
 -- `report::fields::write_level` meets its contract: such a number has at most ten digits. Assumes nothing.
 use native.Mathlib.Omega.{arith}
-use lib.ListN.{length-append}
-use Rattle.report.specs.Text.{decimal}
-use Rattle.report.proofs.Decimals.{decimal-length}
+use Rattle.report.proofs.Decimals.{named-length}
 use borrow.Author.Needs.{needs}
 use Rattle.report.proofs.fields.write_level.Statement.{statement}
 use Rattle.report.proofs.fields.write_level.Tie as tie
@@ -10,7 +8,7 @@ use Rattle.report.proofs.fields.write_level.Tie as tie
 write-number-requires : tie.Need-write-number-requires
 write-number-requires c κs =
     let a = c .before .before .before .args in
-    omega (arith, decimal-length 9 (a .n) (omega arith), length-append (a .name .now) (decimal (a .n)))
+    omega (arith, named-length 9 (a .n) (a .name .now) (omega arith))
 
 same-length : tie.Need-same-length
 same-length c = search needs
@@ -19,7 +17,7 @@ returns : tie.Need-returns
 returns c =
     let w = c .before .before in
     let a = w .before .before .before .before .args in
-    (w .write-number .ensures, omega (arith, w .write-number .ensures .0, decimal-length 9 (a .n) (omega arith), length-append (a .name .now) (decimal (a .n))))
+    (w .write-number .ensures, omega (arith, w .write-number .ensures .0, named-length 9 (a .n) (a .name .now) (omega arith)))
 
 pub write-level-spec : {M : Type 1} → statement M
 write-level-spec = tie.close (tie.spec write-number-requires same-length returns)

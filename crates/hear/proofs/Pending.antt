@@ -11,20 +11,20 @@ use Rattle.hear.specs.Call.{framesIn, leftIn, answerAt, textBefore, repe
 
 module _ (soFar : List ℕ) (sent end : ℕ) (out : List ℕ) (p : Pending soFar sent end out) where
   -- a line more waits
-  pub waits-more : (line after : List ℕ) (n : ℕ) → Appended out end line after n → Pending (soFar ++ line) sent n after
-  waits-more line after n h =
+  pub pending-more : (line after : List ℕ) (n : ℕ) → Appended out end line after n → Pending (soFar ++ line) sent n after
+  pending-more line after n h =
       let le : sent ≤ length soFar = omega (arith, p .0) in (
         omega (arith, h .0, p .0, length-append soFar line),
         h .1 ∙ ap (λ (l : List ℕ). l ++ line) (p .1) ∙ sym (drop-append-le sent soFar line le),
       )
 
   -- nothing waits once all is sent
-  pub waits-none : Pending soFar (sent + end) 0 out
-  waits-none = (omega (arith, p .0), sym (ap (λ (n : ℕ). drop n soFar) (p .0) ∙ drop-length soFar))
+  pub pending-none : Pending soFar (sent + end) 0 out
+  pending-none = (omega (arith, p .0), sym (ap (λ (n : ℕ). drop n soFar) (p .0) ∙ drop-length soFar))
 
   -- what waits is the next part of any text that goes on from there
-  pub waits-next : (rest : List ℕ) → take end out ≡ take end (drop sent (soFar ++ rest))
-  waits-next rest =
+  pub pending-next : (rest : List ℕ) → take end out ≡ take end (drop sent (soFar ++ rest))
+  pending-next rest =
       let le : sent ≤ length soFar = omega (arith, p .0) in
       let n : length (drop sent soFar) ≡ end = length-drop sent soFar ∙ omega (arith, p .0) in
       p .1 ∙ sym (ap (take end) (drop-append-le sent soFar rest le) ∙ take-at (drop sent soFar) rest end n)

@@ -1,12 +1,12 @@
--- `report::fields::write_notes` meets its contract: three parts, one after the other. Assumes nothing.
+-- `report::fields::write_status` meets its contract: three parts, one after the other. Assumes nothing.
 use mathlib.Core.List.{_++_}
 use native.Mathlib.Omega.{arith}
 use Rattle.report.specs.Text.{decimal, flag, field}
-use Rattle.report.specs.Lines.{notesText}
+use Rattle.report.specs.Lines.{statusText}
 use Rattle.report.proofs.Appending.{appended-more}
 use borrow.Author.Needs.{needs}
-use Rattle.report.proofs.fields.write_notes.Statement.{statement}
-use Rattle.report.proofs.fields.write_notes.Tie as tie
+use Rattle.report.proofs.fields.write_status.Statement.{statement}
+use Rattle.report.proofs.fields.write_status.Tie as tie
 
 slice-aggregate-write-flag : tie.Need-slice-aggregate-write-flag
 slice-aggregate-write-flag c = search needs
@@ -30,7 +30,7 @@ same-length : tie.Need-same-length
 same-length c = search needs
 
 returns : tie.Need-returns
-unfolding notesText
+unfolding statusText
 returns c =
     let d3 = c .before .before in
     let d2 = d3 .before .before .before .before .before in
@@ -44,8 +44,8 @@ returns c =
     let w3 = appended-more o _ _ (a .at) _ _ (p1 ++ p2) p3 w2 (d3 .write-flag2 .ensures .0) in
     (w3, omega (arith, d1 .write-flag .ensures .1, d2 .write-byte .ensures .1, d3 .write-flag2 .ensures .1))
 
-pub write-notes-spec : {M : Type 1} → statement M
-write-notes-spec =
+pub write-status-spec : {M : Type 1} → statement M
+write-status-spec =
     tie.close
     (tie.spec
     slice-aggregate-write-flag

@@ -1,12 +1,12 @@
--- `report::fields::write_sound` meets its contract: four parts, one after the other. Assumes nothing.
+-- `report::fields::write_parameters` meets its contract: four parts, one after the other. Assumes nothing.
 use mathlib.Core.List.{_++_}
 use native.Mathlib.Omega.{arith}
 use Rattle.report.specs.Text.{decimal, field}
-use Rattle.report.specs.Lines.{letter, setText, soundText}
+use Rattle.report.specs.Lines.{letter, setText, parametersText}
 use Rattle.report.proofs.Appending.{appended-more}
 use borrow.Author.Needs.{needs}
-use Rattle.report.proofs.fields.write_sound.Statement.{statement}
-use Rattle.report.proofs.fields.write_sound.Tie as tie
+use Rattle.report.proofs.fields.write_parameters.Statement.{statement}
+use Rattle.report.proofs.fields.write_parameters.Tie as tie
 
 write-kind-requires : tie.Need-write-kind-requires
 write-kind-requires c κs = search needs
@@ -30,7 +30,7 @@ same-length : tie.Need-same-length
 same-length c = search needs
 
 returns : tie.Need-returns
-unfolding soundText
+unfolding parametersText
 returns c =
     let d4 = c .before .before in
     let d3 = d4 .before .before .before .before .before in
@@ -47,8 +47,8 @@ returns c =
     let w4 = appended-more o _ _ (a .at) _ _ (p1 ++ p2 ++ p3) p4 w3 (d4 .write-level2 .ensures .0) in
     (w4, omega (arith, d1 .write-kind .ensures .1, d2 .write-set .ensures .1, d3 .write-level .ensures .1, d4 .write-level2 .ensures .1))
 
-pub write-sound-spec : {M : Type 1} → statement M
-write-sound-spec =
+pub write-parameters-spec : {M : Type 1} → statement M
+write-parameters-spec =
     tie.close
     (tie.spec
     write-kind-requires
