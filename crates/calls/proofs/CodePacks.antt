@@ -2,7 +2,7 @@
 -- Assumes nothing.
 use mathlib.Core.Path.{_≡_, refl, sym, ap, ap₂, _∙_, subst⁻¹}
 use mathlib.Core.Bool.{Bool, not}
-use mathlib.Core.List.{List, _++_}
+use mathlib.Core.List.{List, [], _++_}
 use Prim.Native.Nat.{ℕ, zero, suc}
 use lib.ListN.{length, take, drop}
 use lib.Seq.{take-append-seam}
@@ -32,6 +32,18 @@ pub record CodePacks (c : PackCall) : Type 0 where
   pub left : AtExit pack.ended κs
   pub contract : pack-reads.Post κs passed gave left
   pub observed : c ≡ packCall (passed .0) (passed .1 .0) (passed .1 .1 .0 .now) gave (left .1 .1 .0 .now)
+
+-- there is such a call for all arguments
+pub pack-had : (set : ParameterSet) (sync : Bool) (lent : List ℕ)
+    → CodePacks (packCall set sync lent (packAnswer set sync (length lent)) (packWrites set sync lent))
+pack-had set sync lent = record {
+  κs = ([], tt);
+  passed = (set, (sync, (record { ptr = (0, 0); name = 0; now = lent }, tt)));
+  gave = packAnswer set sync (length lent);
+  left = (set, (sync, (record { ptr = (0, 0); name = 0; now = packWrites set sync lent }, tt)));
+  contract = (refl, refl);
+  observed = refl;
+}
 
 module _ (ord : List ℕ) (set : ParameterSet) (sync : Bool) where
   -- the frame stands in front of what is written

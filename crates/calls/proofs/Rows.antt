@@ -41,11 +41,11 @@ module _ (ord : List ℕ) where
       × Chain (receive ord r (arrived w) .next) (receive ord u (frame ord (setOf w) (w .packing .given)) .next) (λ k. flips (suc k)) ws
 
   -- a call that keeps to the model and is not refused
-  abbrev pub Packs : PackCall → Type 0
-  Packs c = PackStep ord c × (packCallRefusal c ≡ 0)
+  abbrev pub PacksFrame : PackCall → Type 0
+  PacksFrame c = PackStep ord c × (packCallRefusal c ≡ 0)
 
-  abbrev pub Receives : ReceiveCall → Type 0
-  Receives c = ReceiveStep ord c × (receiveCallRefusal c ≡ 0)
+  abbrev pub TakesFrame : ReceiveCall → Type 0
+  TakesFrame c = ReceiveStep ord c × (receiveCallRefusal c ≡ 0)
 
   -- the row of a packing call and the receiving call that got its frame
   abbrev rowOf : Record → (ℕ → Bool) → PackCall → ReceiveCall → Row
@@ -57,7 +57,7 @@ module _ (ord : List ℕ) where
     clean = resultIn (receive ord u (frame ord (p .arguments .set) (p .given)) .answer);
   }
 
-  row-known : (r u : Record) (fl : ℕ → Bool) (p : PackCall) (q : ReceiveCall) → Packs p → Receives q → q .given ≡ r → q .frame ≡ through fl (sent p)
+  row-known : (r u : Record) (fl : ℕ → Bool) (p : PackCall) (q : ReceiveCall) → PacksFrame p → TakesFrame q → q .given ≡ r → q .frame ≡ through fl (sent p)
       → Known r u (rowOf u fl p q)
   row-known r u fl p q k l g e =
       let same : q .frame ≡ through fl (frame ord (p .arguments .set) (p .given)) = e ∙ ap (through fl) (pack-sent ord p (k .0) (k .1)) in
@@ -81,14 +81,14 @@ module _ (ord : List ℕ) where
     pub chain : Chain r u flips rows
 
   -- where the receiving calls get exactly what the channel hands on, there are such rows
-  pub aligned : (s : Bool) (r u : Record) (flips : ℕ → ℕ → Bool) (ps : List PackCall) (qs : List ReceiveCall) → PackRun Packs s ps → ReceiveRun Receives r qs
-      → map (λ c. c .frame) qs ≡ channel flips (map sent ps) → Aligned r u flips ps qs
+  pub aligned : (s : Bool) (r u : Record) (flips : ℕ → ℕ → Bool) (ps : List PackCall) (qs : List ReceiveCall)
+      → PackRun PacksFrame s ps → ReceiveRun TakesFrame r qs → map (λ c. c .frame) qs ≡ channel flips (map sent ps) → Aligned r u flips ps qs
   aligned s r u flips [] [] h j e = record { rows = []; packings = refl; receivings = refl; chain = tt }
   aligned s r u flips [] (q ∷ qs) h j e = absurd (cons≢nil e)
   aligned s r u flips (p ∷ ps) [] h j e = absurd (nil≢cons e)
   aligned s r u flips (p ∷ ps) (q ∷ qs) h j e =
       let here : Known r u (rowOf u (flips 0) p q) = row-known r u (flips 0) p q (h .1) (j .1) (j .0) (head-eq-of-cons-eq e) in
-      let goes-on = subst (λ (y : Record). ReceiveRun Receives y qs) (here .leaves) (j .2) in
+      let goes-on = subst (λ (y : Record). ReceiveRun TakesFrame y qs) (here .leaves) (j .2) in
       let rest = aligned _ _ (receive ord u (frame ord (p .arguments .set) (p .given)) .next) (λ k. flips (suc k)) ps qs (h .2) goes-on (tail-eq-of-cons-eq e) in
       record {
         rows = rowOf u (flips 0) p q ∷ rest .rows;

@@ -18,7 +18,7 @@ use Rattle.frame.specs.Packing.{freshSync}
 use Rattle.records.specs.Records.{fresh}
 use Rattle.records.specs.declared.Record.{Record}
 use Rattle.receiver.specs.declared.ReceiveAnswer.the-variants.{Result}
-use Rattle.calls.specs.Model.{done, outcomes, packModel, receiveModel}
+use Rattle.calls.specs.Model.{done, outcomes, PackArguments, packModel, receiveModel}
 use Rattle.calls.specs.Observed.{PackCall, ReceiveCall, sent, packOutcome, receiveOutcome, lentAfter}
 use Rattle.calls.specs.Observed.{PackRun, ReceiveRun, unrefused, packCallRefusal, receiveCallRefusal, channel}
 use Rattle.calls.specs.Frames.{Row, RowClaim, PairClaim}
@@ -29,6 +29,13 @@ pub record Session (Packs : PackCall → Type 0) (Receives : ReceiveCall → Typ
   pub packing : PackRun Packs freshSync ps
   pub receiving : ReceiveRun Receives start rs
   pub delivered : map (λ c. c .frame) (unrefused receiveCallRefusal rs) ≡ channel flips (map sent (unrefused packCallRefusal ps))
+
+-- that it can be had: packing calls with these arguments, and receiving calls that take every frame packed
+pub record Had (Packs : PackCall → Type 0) (Receives : ReceiveCall → Type 0) (xs : List PackArguments) (flips : ℕ → ℕ → Bool) (start : Record) : Type 0 where
+  pub packs : List PackCall
+  pub receives : List ReceiveCall
+  pub arguments : map (λ c. c .arguments) packs ≡ xs
+  pub session : Session Packs Receives packs flips receives start
 
 -- what is claimed, in an order of the bits and for bursts of a width
 pub record Claim (ord : List ℕ) (width : ℕ) (ps : List PackCall) (flips : ℕ → ℕ → Bool) (rs : List ReceiveCall) (start : Record) : Type 0 where

@@ -16,7 +16,8 @@ use Rattle.examples.specs.Examples.{Examples}
 use Rattle.examples.proofs.Muted.{mutes}
 
 pub examples : Examples
-unfolding index classOf classAnswer fixOf decode firstLevel firstLevelAnswer nearest chosenG1 placeOf orderBy defaultOrder frameOf bitAt through words others unvoicedWords logical read fresh accepted repeated receive raised
+unfolding index classOf classAnswer fixOf decode firstLevel firstLevelAnswer nearest chosenG1 placeOf orderBy defaultOrder frameOf bitAt through
+    words others unvoicedWords logical read fresh accepted repeated receive raised
 examples = record {
   example-1 = record { zero-ones = refl; one-one = refl; two-ones = refl; lowest = refl; middle = refl; highest = refl };
   example-2 = record { parity = refl; one-flip = refl; two-flips = refl; three-flips = refl };

@@ -42,7 +42,8 @@ module _ (ord : List ℕ) (o : Order ord) where
   module _ (x : Indices) (sync : Bool) (fl : ℕ → Bool) where
     -- the light-frame law: at most one flip in the pitch code and in each word leaves L1, G2 and G1 as sent, and every flip counted
     pub correctable-returns : T (sendable (Unvoiced x)) → Correctable (logicalFlips ord fl)
-        → read (logicalBit ord (through fl (frame ord (Unvoiced x) sync))) ≡ Accepted (Unvoiced (seen x sync (logicalFlips ord fl))) (protectedFlips (logicalFlips ord fl))
+        → read (logicalBit ord (through fl (frame ord (Unvoiced x) sync)))
+        ≡ Accepted (Unvoiced (seen x sync (logicalFlips ord fl))) (protectedFlips (logicalFlips ord fl))
     correctable-returns t k = received-read (Unvoiced x) sync fl ∙ correctable-read x sync (logicalFlips ord fl) k (index-ranges x t)
 
     -- exactly two flips in word A, and at most one in the pitch code, erase a frame sent unvoiced

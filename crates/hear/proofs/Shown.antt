@@ -15,5 +15,7 @@ use Rattle.hear.specs.Call.{recordAfter, answerAt, textBefore, repeatsBe
 use Rattle.hear.specs.Example.{Example}
 
 pub example : Example
-unfolding classOf fixOf decode placeOf orderBy defaultOrder bitAt firstLevel words others unvoicedWords logical read fresh accepted repeated receive digits decimal lsfText setText parametersText statusText resultText frameLine lastLine recordAfter answerAt textBefore repeatsBefore text
+unfolding classOf fixOf decode placeOf orderBy defaultOrder bitAt firstLevel words others unvoicedWords logical read fresh accepted repeated receive
+    digits decimal lsfText setText parametersText statusText resultText frameLine lastLine
+    recordAfter answerAt textBefore repeatsBefore text
 example = refl

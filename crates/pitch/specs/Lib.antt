@@ -1,1 +1,2 @@
 pub mod Pitch
+pub mod Standard

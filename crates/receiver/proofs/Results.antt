@@ -78,7 +78,7 @@ module _ (ord : List ℕ) (o : Order ord) (r : Record) (ok : T (valid r)) (sync 
 
     -- sent voiced, at most one flip in the pitch code: the result is voiced, or a repeat
     pub voiced-kept : (x : Indices) (v : Voicing) → T (sendable (Voiced x v)) → ones (cut (logicalFlips ord fl) 28 7) ≤ 1
-        → (resultIn (receive ord r (arrives (Voiced x v)) .answer) .kind ≡ kind.Voiced) ⊎ (resultIn (receive ord r (arrives (Voiced x v)) .answer) .kind ≡ kind.Repeat)
+        → let result = resultIn (receive ord r (arrives (Voiced x v)) .answer) in (result .kind ≡ kind.Voiced) ⊎ (result .kind ≡ kind.Repeat)
     voiced-kept x v t p =
         subst⁻¹ (λ (y : Received). (resultIn (y .answer) .kind ≡ kind.Voiced) ⊎ (resultIn (y .answer) .kind ≡ kind.Repeat)) (arrived-taken (Voiced x v))
         (step-kind r syncArrived (read (logicalBit ord (arrives (Voiced x v)))) (voiced-returns ord o x v sync fl (sendable-pitch x v t) p))

@@ -27,7 +27,7 @@ module _ (a : ℕ) (out : List ℕ) where
 
 module _ (bytes out₀ : List ℕ) (sync : Bool) (k : ℕ) (out : List ℕ) (s : SoFar bytes out₀ sync k out) (more : k < setsIn bytes)
     (room : 7 * setsIn bytes ≤ length out₀) (set : ParameterSet) (at : set ≡ setAt bytes (11 * k)) (answer : PackAnswer) (ys : List ℕ)
-    (p : (answer ≡ packAnswer set sync (length (midOf (7 * k) (length out - 7 * k) out))) × (ys ≡ packWrites set sync (midOf (7 * k) (length out - 7 * k) out))) where
+    (p : let lent = midOf (7 * k) (length out - 7 * k) out in (answer ≡ packAnswer set sync (length lent)) × (ys ≡ packWrites set sync lent)) where
   -- what is lent, with room for a frame
   abbrev tail : List ℕ
   tail = drop (7 * k) out

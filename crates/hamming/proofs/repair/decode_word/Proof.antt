@@ -19,13 +19,17 @@ most : (c : tie.Start) → c .args .n ≤ 8
 most c = rw (c .pre .0) (length-most (c .args .length))
 
 -- what the calls gave, over n
-parity-gave : (c : tie.After-parity-of) → c .parity-of .result ≡ value (parityOf (c .before .before .args .n) (bits (dataBits (c .before .before .args .n)) (c .before .before .args .word / c .before .data-weight .result)))
+parity-gave : (c : tie.After-parity-of)
+    → let s = c .before .before in
+    c .parity-of .result ≡ value (parityOf (s .args .n) (bits (dataBits (s .args .n)) (s .args .word / c .before .data-weight .result)))
 parity-gave c =
     let s = c .before .before in
     subst (λ (n : ℕ). c .parity-of .result ≡ value (parityOf n (bits (dataBits n) (s .args .word / c .before .data-weight .result))))
     (sym (s .pre .0)) (c .parity-of .ensures)
 
-entry : (c : tie.After-fix-of) → c .fix-of .result ≡ entryOf (fixOf (c .before .before .before .args .n) (syndrome (c .before .before .before .args .n) (bits (c .before .before .before .args .n) (c .before .before .before .args .word))))
+entry : (c : tie.After-fix-of)
+    → let s = c .before .before .before in
+    c .fix-of .result ≡ entryOf (fixOf (s .args .n) (syndrome (s .args .n) (bits (s .args .n) (s .args .word))))
 entry c =
     let s = c .before .before .before in
     outcome.entry-is (s .args .n) (least s) (most s) (s .args .word) (c .before .before .data-weight .result) (c .before .parity-of .result) (c .fix-of .result)

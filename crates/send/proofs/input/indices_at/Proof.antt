@@ -43,4 +43,7 @@ returns : tie.Need-returns
 returns c = search needs
 
 pub indices-at-spec : {M : Type 1} → statement M
-indices-at-spec = tie.close (tie.spec add-t3 shared-slice-read-t5 add-t6 shared-slice-read-t8 add-t9 shared-slice-read-t11 add-t12 shared-slice-read-t14 add-t15 shared-slice-read-t17 add-t18 shared-slice-read-t20 returns)
+indices-at-spec = tie.close (
+    tie.spec add-t3 shared-slice-read-t5 add-t6 shared-slice-read-t8 add-t9 shared-slice-read-t11 add-t12 shared-slice-read-t14
+    add-t15 shared-slice-read-t17 add-t18 shared-slice-read-t20 returns
+    )
