@@ -12,11 +12,11 @@ class-of-requires c κs = search needs
 
 returns : tie.Need-returns
 unfolding classAnswer
-returns c = simp (lt-ltb _ _ (c .before .if1 .taken)) (ap Class (c .class-of .ensures))
+returns c = simp (lt-ltb _ 128 (c .before .if1 .taken)) (ap Class (c .class-of .ensures))
 
 returns-2 : tie.Need-returns-2
 unfolding classAnswer
-returns-2 c = simp (le-ltb _ _ (c .if1 .left))
+returns-2 c = simp (le-ltb _ 128 (c .if1 .left))
 
 pub classify-spec : {M : Type 1} → statement M
 classify-spec = tie.close (tie.spec class-of-requires returns returns-2)

@@ -10,14 +10,14 @@ use Rattle.pitch.proofs.code.encode.Tie as tie
 
 returns : tie.Need-returns
 unfolding codeAnswer
-returns c = simp (le-ltb _ _ (c .if1 .taken))
+returns c = simp (le-ltb _ 99 (c .if1 .taken))
 
 code-of-requires : tie.Need-code-of-requires
 code-of-requires c κs = search needs
 
 returns-2 : tie.Need-returns-2
 unfolding codeAnswer
-returns-2 c = simp (lt-ltb _ _ (suc-le-suc (c .before .if1 .left))) (ap Code (c .code-of .ensures))
+returns-2 c = simp (lt-ltb _ 99 (suc-le-suc (c .before .if1 .left))) (ap Code (c .code-of .ensures))
 
 pub encode-spec : {M : Type 1} → statement M
 encode-spec = tie.close (tie.spec returns code-of-requires returns-2)
