@@ -1,4 +1,4 @@
--- How the code's table of tables writes what a syndrome asks for: the bit to flip, or one of two marks.
+-- Helpers of the code, no part of document 01: how its table of tables writes what a syndrome asks for, the bit to flip or one of two marks.
 use Prim.Native.Nat.{ℕ}
 use Rattle.hamming.specs.Word.{Fix, stand, flip, erase}
 

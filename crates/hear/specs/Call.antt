@@ -57,6 +57,6 @@ repeatsBefore bytes (suc k) = repeatsBefore bytes k + repeatOf (answerAt bytes k
 unfoldable pub text : List ℕ → List ℕ
 text bytes = textBefore bytes (framesIn bytes) ++ lastLine (framesIn bytes) (repeatsBefore bytes (framesIn bytes)) (leftIn bytes)
 
--- of the text so far, `sent` bytes have gone out and the others wait at the front of a buffer, up to `end`
+-- a helper of the code: of the text so far, `sent` bytes have gone out and the others wait at the front of a buffer, up to `end`
 abbrev pub Pending : List ℕ → ℕ → ℕ → List ℕ → Type 0
 Pending soFar sent end out = (sent + end ≡ length soFar) × (take end out ≡ drop sent soFar)

@@ -3,9 +3,9 @@ use crate::frames::Progress;
 use crate::frames::take_frame;
 use report::end_of;
 ghost use mathlib.Core.Path.{_≡_};
-ghost use Prim.Native.Nat.{_+_, _*_, _≤_};
+ghost use Prim.Native.Nat.{_+_, _≤_};
 ghost use lib.ListN.{length, take, drop};
-ghost use Rattle.hear.specs.Call.{framesIn, recordAfter, repeatsBefore, textBefore, text, Pending};
+ghost use Rattle.hear.specs.Call.{framesIn, repeatsBefore, textBefore, text, Pending};
 
 // Sends the first bytes of the buffer, which are those of the text after the first `sent`; how many are sent then.
 fn send(bytes: &[u8], out: &[u8], sent: usize, end: usize) -> usize

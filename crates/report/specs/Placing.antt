@@ -38,6 +38,6 @@ abbrev pub endOf : LineAnswer → ℕ → ℕ
 endOf (Written end) at = end
 endOf (Refused n) at = at
 
--- bytes put after the first `at` of a buffer, which stay, and where they end
+-- a helper of the code: bytes put after the first `at` of a buffer, which stay, and where they end
 abbrev pub Appended : List ℕ → ℕ → List ℕ → List ℕ → ℕ → Type 0
 Appended before at bytes after end = (end ≡ at + length bytes) × (take end after ≡ take at before ++ bytes)

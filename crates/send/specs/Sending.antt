@@ -1,4 +1,4 @@
--- What is sent for the bytes of a call's sets: the frames that document 01 defines, one after another, by a sender that starts fresh.
+-- The program `send`, no part of document 01: for the bytes of a call's sets, the frames that document 01 defines, by a sender that starts fresh.
 use Prim.Native.Nat.{ℕ, zero, suc, _+_, _*_, _/_}
 use mathlib.Core.Bool.{Bool, not, cond}
 use mathlib.Core.List.{List, [], _++_}

@@ -2,7 +2,7 @@
 use sets::Indices;
 use sets::ParameterSet;
 use sets::Voicing;
-ghost use Prim.Native.Nat.{_+_, _*_, _/_, _<_, _≤_};
+ghost use Prim.Native.Nat.{_/_, _<_};
 ghost use lib.ListN.{length};
 
 // Vector i of a slice.
