@@ -31,11 +31,3 @@ unfolding allFit
 fit-at fits [] i h e = absurd (not-suc-le-zero h)
 fit-at fits (z ∷ zs) zero h e = and-eq-true-iff (fits z) (allFit fits zs) .0 e .0
 fit-at fits (z ∷ zs) (suc i) h e = fit-at fits zs i (le-of-suc-le-suc h) (and-eq-true-iff (fits z) (allFit fits zs) .0 e .1)
-
--- the parts of a test of four
-pub and-four : (a b c d : Bool) → a && b && c && d ≡ true → (a ≡ true) × (b ≡ true) × (c ≡ true) × (d ≡ true)
-and-four a b c d e =
-    let abc = and-eq-true-iff (a && b && c) d .0 e in
-    let ab = and-eq-true-iff (a && b) c .0 (abc .0) in
-    let one = and-eq-true-iff a b .0 (ab .0) in
-    (one .0, one .1, ab .1, abc .1)

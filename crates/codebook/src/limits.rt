@@ -1,6 +1,6 @@
 // The limits of a codebook's entries.
 ghost use mathlib.Core.Path.{_≡_};
-ghost use Rattle.codebook.specs.Rows.{between, lsfFits, magnitudeFits, allFit};
+ghost use Rattle.codebook.specs.Rows.{between, allFit};
 
 // The limits of an LSF entry, and the upper limit of a magnitude; the lower is 0.
 pub(crate) const LSF_LEAST: i64 = -4_000_000_000;
@@ -8,20 +8,6 @@ pub(crate) const LSF_LEAST: i64 = -4_000_000_000;
 pub(crate) const LSF_MOST: i64 = 4_000_000_000;
 
 pub(crate) const MAGNITUDE_MOST: i64 = 4_000_000;
-
-// Whether a row's entries are within the limit of LSF entries.
-pub(crate) fn lsf_fits(row: &[i64]) -> bool
-    ensures { λ r. ⌜ r ≡ allFit lsfFits (now (row .entry)) ⌝ }
-{
-    all_between(row, LSF_LEAST, LSF_MOST)
-}
-
-// Whether a row's entries are within the limits of magnitudes.
-pub(crate) fn magnitudes_fit(row: &[i64]) -> bool
-    ensures { λ r. ⌜ r ≡ allFit magnitudeFits (now (row .entry)) ⌝ }
-{
-    all_between(row, 0, MAGNITUDE_MOST)
-}
 
 // Whether every number of a row is within its limits.
 pub(crate) fn all_between(row: &[i64], least: i64, most: i64) -> bool

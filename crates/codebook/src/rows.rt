@@ -6,13 +6,13 @@ use crate::limits::all_between;
 use crate::stages::LSF_ROWS;
 use crate::stages::lsf_row_number;
 ghost use mathlib.Core.Path.{_≡_};
-ghost use Prim.Native.Nat.{_+_, _*_, _≤_, _<_};
+ghost use Prim.Native.Nat.{_+_, _*_, _≤_};
 ghost use lib.ListN.{length};
-ghost use Rattle.codebook.specs.Rows.{stageRows, rowAt, lsfRow, magnitudeRow, lsfRowRefusal, magnitudeRowRefusal, rowUnless};
+ghost use Rattle.codebook.specs.Rows.{rowAt, lsfRow, magnitudeRow, lsfRowRefusal, magnitudeRowRefusal, rowUnless};
 ghost use Rattle.codebook.specs.RowNumbers.{rowRefusal};
 
 // The rows of the magnitude codebook.
-pub(crate) const MAGNITUDE_ROWS: u16 = 256;
+const MAGNITUDE_ROWS: u16 = 256;
 
 // The row of a stage that an index names, as a part of the codebook; a part of no numbers where it is refused.
 pub fn lsf_row(codebook: &[i64], stage: u8, index: u8) -> &[i64]
@@ -70,16 +70,8 @@ fn row_or_none(codebook: &[i64], rows: u16, k: u16, least: i64, most: i64) -> &[
     &codebook[0..0]
 }
 
-// A row of a stage that has it.
-pub(crate) fn stage_row(codebook: &[i64], stage: u8, index: u8) -> &[i64]
-    requires { ⌜ (length (now codebook) ≡ 3200) × (index < stageRows stage) ⌝ }
-    ensures { λ r. ⌜ (now r ≡ lsfRow (now (codebook .entry)) stage index) × (length (now r) ≡ 10) ⌝ }
-{
-    row_at(codebook, lsf_row_number(stage, index))
-}
-
 // Row k of a codebook.
-pub(crate) fn row_at(codebook: &[i64], k: u16) -> &[i64]
+fn row_at(codebook: &[i64], k: u16) -> &[i64]
     requires { ⌜ 10 * k + 10 ≤ length (now codebook) ⌝ }
     ensures { λ r. ⌜ (now r ≡ rowAt (now (codebook .entry)) k) × (length (now r) ≡ 10) ⌝ }
 {

@@ -11,7 +11,7 @@ use Rattle.reading.specs.Reads.{read}
 use Rattle.records.specs.Records.{fresh}
 use Rattle.receiver.specs.Steps.{accepted, repeated}
 use Rattle.receiver.specs.Receiving.{receive}
-use Rattle.codebook.specs.Values.{raised}
+use Rattle.spectra.specs.Values.{raised}
 use Rattle.examples.specs.Examples.{Examples}
 use Rattle.examples.proofs.Muted.{mutes}
 

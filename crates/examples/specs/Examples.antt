@@ -27,7 +27,7 @@ use Rattle.receiver.specs.Receiving.{receive}
 use Rattle.receiver.specs.declared.FrameResult.{FrameResult}
 use Rattle.receiver.specs.declared.Kind.the-variants as kind
 use Rattle.receiver.specs.declared.ReceiveAnswer.the-variants.{Result}
-use Rattle.codebook.specs.Values.{spacing, raised}
+use Rattle.spectra.specs.Values.{spacing, raised}
 use Rattle.calls.specs.Model.{Answer, done, refused, outcomes, receiveModel}
 use Rattle.bits.specs.Lists.{Every}
 

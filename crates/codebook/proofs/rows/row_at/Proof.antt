@@ -1,10 +1,10 @@
 -- `codebook::rows::row_at` meets its contract: the part is ten numbers long. Assumes nothing.
 use mathlib.Core.Path.{_≡_, ap, _∙_}
-use Prim.Native.Nat.{ℕ, _+_, _-_, _*_, _≤_}
+use Prim.Native.Nat.{ℕ, _+_, _-_, _*_}
 use native.Mathlib.Omega.{arith}
-use lib.ListN.{length, take, drop, length-drop}
-use lib.Seq.{length-take-le}
+use lib.ListN.{length, take, drop}
 use borrow.Author.Needs.{needs}
+use Rattle.codebook.proofs.Handed.{row-length}
 use Rattle.codebook.proofs.rows.row_at.Statement.{statement}
 use Rattle.codebook.proofs.rows.row_at.Tie as tie
 
@@ -28,11 +28,11 @@ part-result-end c = omega arith
 
 returns : tie.Need-returns
 returns c =
-    let at = 10 * c .before .args .k in
-    let b = c .before .args .codebook .now in
+    let a = c .before .args in
+    let at = 10 * a .k in
+    let b = a .codebook .now in
     let e : at + 10 - at ≡ 10 = omega arith in
-    let h : 10 ≤ length (drop at b) = simp length-drop (omega arith) in
-    (ap (λ (n : ℕ). take n (drop at b)) e, ap (λ (n : ℕ). length (take n (drop at b))) e ∙ length-take-le 10 (drop at b) h)
+    (ap (λ (n : ℕ). take n (drop at b)) e, ap (λ (n : ℕ). length (take n (drop at b))) e ∙ row-length b (a .k) (c .before .pre))
 
 pub row-at-spec : {M : Type 1} → statement M
 row-at-spec = tie.close (tie.spec mul-at add-result mul-result sub-result part-result-start part-result-end returns)

@@ -1,0 +1,6 @@
+pub mod Sizes
+pub mod Sums
+pub mod Raised
+pub mod Spaced
+pub mod Owed
+pub mod FourRows

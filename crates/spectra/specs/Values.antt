@@ -1,0 +1,102 @@
+-- Document 01, "LSF and magnitude values" and "Refusals by place": the ten values of a set, and what a call for them answers and leaves.
+use Prim.Native.Nat.{ℕ, zero, suc}
+use mathlib.Core.Bool.{Bool, true, _&&_, cond}
+use mathlib.Core.List.{List, [], _∷_, _++_}
+use lib.Dec.{ltb, eqb}
+use lib.ListN.{length, drop, replicate}
+use lib.IntN.{ℤ, pos, _+ℤ_}
+use lib.Signed.{ltZ}
+use Rattle.sets.specs.Sets.{indicesIn, inRange}
+use Rattle.sets.specs.declared.Indices.{Indices}
+use Rattle.sets.specs.declared.ParameterSet.{ParameterSet}
+use Rattle.sets.specs.declared.ParameterSet.the-variants.{Unvoiced, Voiced}
+use Rattle.codebook.specs.Rows.{lsfSize, magnitudeSize, lsfRow, magnitudeRow, lsfFits, magnitudeFits, allFit, refusal}
+use Rattle.spectra.specs.declared.ValuesAnswer.{ValuesAnswer}
+use Rattle.spectra.specs.declared.ValuesAnswer.the-variants.{Written, Refused}
+
+-- two rows added, component by component
+unfoldable pub added : List ℤ → List ℤ → List ℤ
+added [] ys = []
+added (x ∷ xs) [] = []
+added (x ∷ xs) (y ∷ ys) = (x +ℤ y) ∷ added xs ys
+
+-- four rows added
+abbrev pub addedFour : List ℤ → List ℤ → List ℤ → List ℤ → List ℤ
+addedFour a b c d = added (added (added a b) c) d
+
+-- the larger of two numbers
+abbrev pub larger : ℤ → ℤ → ℤ
+larger x y = cond (ltZ x y) y x
+
+-- 50 Hz: the least that component 1 may be, and the least that two neighbours may lie apart
+abbrev pub spacing : ℤ
+spacing = pos 50000000
+
+-- each component raised to at least what is asked of it: `least` of the first, of each next the one before plus 50 Hz
+unfoldable pub raised : ℤ → List ℤ → List ℤ
+raised least [] = []
+raised least (x ∷ xs) = let y = larger x least in y ∷ raised (y +ℤ spacing) xs
+
+-- the LSF values of four rows
+abbrev pub rowsValues : List ℤ → List ℤ → List ℤ → List ℤ → List ℤ
+rowsValues a b c d = raised spacing (addedFour a b c d)
+
+-- whether every entry of four rows is within the limit of LSF entries
+abbrev pub rowsFit : List ℤ → List ℤ → List ℤ → List ℤ → Bool
+rowsFit a b c d = allFit lsfFits a && allFit lsfFits b && allFit lsfFits c && allFit lsfFits d
+
+-- of what a set's four rows give: L1 names the row of stage 1, L2 of stage 2, L3 of stage 3, L4 of stage 4
+abbrev pub ofRows : {A : Type 0} → (List ℤ → List ℤ → List ℤ → List ℤ → A) → List ℤ → Indices → A
+ofRows f codebook x = f (lsfRow codebook 1 (x .l1)) (lsfRow codebook 2 (x .l2)) (lsfRow codebook 3 (x .l3)) (lsfRow codebook 4 (x .l4))
+
+-- the LSF values of a set
+unfoldable pub lsfValues : List ℤ → ParameterSet → List ℤ
+lsfValues codebook set = ofRows rowsValues codebook (indicesIn set)
+
+-- the magnitudes of a set: all 1 where it is unvoiced, else row F
+abbrev pub magnitudes : List ℤ → ParameterSet → List ℤ
+magnitudes codebook (Unvoiced x) = replicate 10 (pos 1000000)
+magnitudes codebook (Voiced x v) = magnitudeRow codebook (v .fourier)
+
+-- whether the row in use is within the limits; an unvoiced set uses none
+abbrev pub magnitudesFit : List ℤ → ParameterSet → Bool
+magnitudesFit codebook (Unvoiced x) = true
+magnitudesFit codebook (Voiced x v) = allFit magnitudeFits (magnitudeRow codebook (v .fourier))
+
+-- the refusal of values, 0 is none: 1 for an output of fewer than ten numbers, then as for rows
+abbrev pub valuesRefusal : ParameterSet → List ℤ → ℕ → ℕ → Bool → ℕ
+valuesRefusal set codebook size room fit = cond (ltb room 10) 1 (refusal (inRange set) (eqb (length codebook) size) fit)
+
+-- of LSF values: the rows in use are the set's four
+abbrev pub lsfRefusal : ParameterSet → List ℤ → ℕ → ℕ
+lsfRefusal set codebook room = valuesRefusal set codebook lsfSize room (ofRows rowsFit codebook (indicesIn set))
+
+-- of magnitudes
+abbrev pub magnitudesRefusal : ParameterSet → List ℤ → ℕ → ℕ
+magnitudesRefusal set codebook room = valuesRefusal set codebook magnitudeSize room (magnitudesFit codebook set)
+
+-- the answer: values written, or the refusal's number
+abbrev pub answerUnless : ℕ → ValuesAnswer
+answerUnless zero = Written
+answerUnless (suc n) = Refused (suc n)
+
+-- the output afterwards: the values in front and all past the tenth number kept; after a refusal all kept
+abbrev pub writtenUnless : ℕ → List ℤ → List ℤ → List ℤ
+writtenUnless zero values out = values ++ drop 10 out
+writtenUnless (suc n) values out = out
+
+-- what a call for LSF values answers, for an output of `room` numbers
+unfoldable pub lsfAnswer : ParameterSet → List ℤ → ℕ → ValuesAnswer
+lsfAnswer set codebook room = answerUnless (lsfRefusal set codebook room)
+
+-- and what its output holds afterwards
+unfoldable pub lsfWrites : ParameterSet → List ℤ → List ℤ → List ℤ
+lsfWrites set codebook out = writtenUnless (lsfRefusal set codebook (length out)) (lsfValues codebook set) out
+
+-- what a call for magnitudes answers
+unfoldable pub magnitudesAnswer : ParameterSet → List ℤ → ℕ → ValuesAnswer
+magnitudesAnswer set codebook room = answerUnless (magnitudesRefusal set codebook room)
+
+-- and what its output holds afterwards
+unfoldable pub magnitudesWrites : ParameterSet → List ℤ → List ℤ → List ℤ
+magnitudesWrites set codebook out = writtenUnless (magnitudesRefusal set codebook (length out)) (magnitudes codebook set) out
