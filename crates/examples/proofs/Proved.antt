@@ -5,7 +5,7 @@ use Rattle.pitch.specs.Pitch.{index, classOf, classAnswer}
 use Rattle.hamming.specs.Word.{fixOf, decode}
 use Rattle.order.specs.Order.{placeOf, orderBy, defaultOrder, frameOf, bitAt, through}
 use Rattle.gain.specs.Levels.{firstLevel, firstLevelAnswer}
-use Rattle.gain.specs.Choice.{nearest, chosenG1}
+use Rattle.quantiser.specs.Choice.{nearest, chosenG1}
 use Rattle.frame.specs.Layout.{words, others, unvoicedWords, logical}
 use Rattle.reading.specs.Reads.{read}
 use Rattle.records.specs.Records.{fresh}

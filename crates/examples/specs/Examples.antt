@@ -14,7 +14,7 @@ use Rattle.hamming.specs.Word.{parityOf, encode, flipAt, decode}
 use Rattle.hamming.specs.declared.Decoded.the-variants.{Read, Erased}
 use Rattle.order.specs.Order.{times, defaultOrder, logicalBit, frameRefusal, through}
 use Rattle.gain.specs.Levels.{firstLevelAnswer}
-use Rattle.gain.specs.Choice.{chosenG2, chosenG1}
+use Rattle.quantiser.specs.Choice.{chosenG2, chosenG1}
 use Rattle.gain.specs.declared.LevelAnswer.the-variants.{Level}
 use Rattle.frame.specs.Layout.{frame}
 use Rattle.frame.specs.Packing.{freshSync}

@@ -1,7 +1,3 @@
 -- The laws of the gain levels, in the order of the definitions.
 pub mod SecondLevel
 pub mod FirstLevel
-pub mod Nearest
-pub mod Thresholds
-pub mod Raise
-pub mod Chosen

@@ -1,3 +1,2 @@
--- Gain levels (document 01), from codes to levels and from levels to codes.
+-- Gain levels (document 01), from codes to levels.
 pub mod Levels
-pub mod Choice

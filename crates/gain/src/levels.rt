@@ -1,9 +1,11 @@
 // From gain codes to levels (5.3.3).
 use crate::LevelAnswer;
-use crate::OUT_OF_RANGE;
 ghost use mathlib.Core.Path.{_≡_};
 ghost use Prim.Native.Nat.{_+_, _*_, min};
 ghost use Rattle.gain.specs.Levels.{level, apart, mean, firstLevel, levelAnswer, firstLevelAnswer};
+
+// The refusal of a parameter that is out of its range.
+const OUT_OF_RANGE: u8 = 5;
 
 // The level of a second code in units of 1/186 dB, by the formula alone.
 pub fn gain_level(g2: u8) -> u32
@@ -45,21 +47,21 @@ pub fn first_level(g2: u8, code: u8, q: u8) -> LevelAnswer
 }
 
 // The mean of two second levels: what code 0 stands for.
-pub(crate) fn mean_level(g2: u8, q: u8) -> u32
+fn mean_level(g2: u8, q: u8) -> u32
     ensures { λ r. ⌜ r ≡ mean g2 q ⌝ }
 {
     (gain_level(g2) + gain_level(q)) / 2
 }
 
 // The step between the seven levels of codes 1 to 7.
-pub(crate) fn first_step(g2: u8, q: u8) -> u32
+fn first_step(g2: u8, q: u8) -> u32
     ensures { λ r. ⌜ r ≡ 67 * apart g2 q + 372 ⌝ }
 {
     67 * gap(g2 as u32, q as u32) + 372
 }
 
 // How far two numbers lie apart.
-pub(crate) fn gap(a: u32, b: u32) -> u32
+fn gap(a: u32, b: u32) -> u32
     ensures { λ r. ⌜ r ≡ apart a b ⌝ }
 {
     if a < b { b - a } else { a - b }

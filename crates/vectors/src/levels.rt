@@ -1,7 +1,7 @@
 // Vectors of gain levels and gain codes.
 use crate::vector::wide;
-use gain::CodesAnswer;
 use gain::LevelAnswer;
+use quantiser::CodesAnswer;
 
 // Whether a level's answer is a refusal or a level as expected.
 fn level_agrees(answer: LevelAnswer, refusal: u8, level: u32) -> bool {
@@ -31,7 +31,7 @@ fn signed(a: u8, b: u8, c: u8, d: u8) -> i32 {
 pub(crate) fn choice_agrees(r: [u8; 64]) -> bool {
     let first = signed(r[1], r[2], r[3], r[4]);
     let second = signed(r[5], r[6], r[7], r[8]);
-    match gain::choose(first, second, r[9]) {
+    match quantiser::choose(first, second, r[9]) {
         CodesAnswer::Codes { g2, g1 } => (r[10] == 0) & (r[11] == g2) & (r[12] == g1),
         CodesAnswer::Refused(n) => (n != 0) & (r[10] == n),
     }

@@ -6,9 +6,9 @@ use Prim.Native.Nat.{ℕ, suc, _+_, _≤_, _<_}
 use native.Mathlib.Numerals.{one-add}
 use native.Mathlib.Omega.{arith}
 use lib.IntN.{ℤ}
 use Rattle.gain.specs.Levels.{level, mean, firstLevel}
-use Rattle.gain.specs.Choice.{distance, nearest, sevenLevels, steady, chosenG2, chosenG1}
-use Rattle.gain.proofs.Nearest.{nearest-le, nearest-least, nearest-lower}
+use Rattle.quantiser.specs.Choice.{distance, nearest, sevenLevels, steady, chosenG2, chosenG1}
+use Rattle.quantiser.proofs.Nearest.{nearest-le, nearest-least, nearest-lower}
 
 module _ (second : ℤ) where
   -- the second code is at most 31

@@ -1,4 +1,4 @@
--- `gain::quantiser::quantise` meets its contract: the index reached so far is the nearest of those passed. It goes up above a threshold,
+-- `quantiser::uniform::quantise` meets its contract: the index reached so far is the nearest of those passed. It goes up above a threshold,
 -- and at or below one no higher index is nearer. Assumes nothing.
 use mathlib.Core.Path.{_≡_, sym}
 use Prim.Native.Nat.{ℕ, suc, _+_, _-_, _*_, _≤_, _<_}
@@ -6,10 +6,10 @@ use native.Mathlib.Nat.{suc-mul, mul-le-mul-right}
 use native.Mathlib.Numerals.{add-one}
 use native.Mathlib.Omega.{arith}
 use borrow.Author.Needs.{needs}
-use Rattle.gain.specs.Choice.{nearest}
-use Rattle.gain.proofs.Thresholds.{index, index-up, index-stays}
-use Rattle.gain.proofs.quantiser.quantise.Statement.{statement}
-use Rattle.gain.proofs.quantiser.quantise.Tie as tie
+use Rattle.quantiser.specs.Choice.{nearest}
+use Rattle.quantiser.proofs.Thresholds.{index, index-up, index-stays}
+use Rattle.quantiser.proofs.uniform.quantise.Statement.{statement}
+use Rattle.quantiser.proofs.uniform.quantise.Tie as tie
 
 -- below the last level there is room for one step more
 step-room : (base step last i : ℕ) → base + last * step ≤ 100000 → i < last → base + i * step + step ≤ 100000

@@ -1,16 +1,17 @@
 // From two levels to their gain codes (5.3.3).
 use crate::CodesAnswer;
-use crate::OUT_OF_RANGE;
-use crate::levels::first_gain_level;
-use crate::levels::first_step;
-use crate::levels::gap;
-use crate::levels::mean_level;
-use crate::quantiser::quantise;
+use crate::uniform::quantise;
+use gain::first_gain_level;
 ghost use mathlib.Core.Path.{_≡_};
 ghost use mathlib.Core.Bool.{true};
 ghost use Prim.Native.Nat.{_≤_};
+ghost use lib.Dec.{leb};
 ghost use lib.IntN.{pos, _+ℤ_};
-ghost use Rattle.gain.specs.Choice.{levelInRange, chosenG2, steady, chosenG1, chooseAnswer};
+ghost use Rattle.gain.specs.Levels.{apart};
+ghost use Rattle.quantiser.specs.Choice.{levelInRange, chosenG2, steady, chosenG1, chooseAnswer};
+
+// The refusal of a parameter that is out of its range.
+const OUT_OF_RANGE: u8 = 5;
 
 // Added to a level in range and to the levels that it is compared with, it leaves none below 0.
 const RAISE: u32 = 18600;
@@ -61,8 +62,9 @@ fn first_code(first: i32, g2: u8, q: u8) -> u8
     if is_steady(first, g2, q) {
         return 0;
     }
-    let lowest = RAISE + first_gain_level(g2, 1, q);
-    1 + quantise(lowest, first_step(g2, q), 6, raised(first))
+    let lowest = first_gain_level(g2, 1, q);
+    let step = first_gain_level(g2, 2, q) - lowest;
+    1 + quantise(RAISE + lowest, step, 6, raised(first))
 }
 
 // Whether the second levels are close, and the first level is close to their mean.
@@ -70,6 +72,13 @@ fn is_steady(first: i32, g2: u8, q: u8) -> bool
     requires { ⌜ levelInRange first ≡ true ⌝ }
     ensures { λ r. ⌜ r ≡ steady first g2 q ⌝ }
 {
-    let mean = RAISE + mean_level(g2, q);
-    (gap(g2 as u32, q as u32) <= 2) & (gap(raised(first), mean) <= 558)
+    let mean = first_gain_level(g2, 0, q);
+    is_within(2, g2 as u32, q as u32) & is_within(558, raised(first), RAISE + mean)
+}
+
+// Whether two numbers lie at most `most` apart.
+fn is_within(most: u32, a: u32, b: u32) -> bool
+    ensures { λ r. ⌜ r ≡ leb (apart a b) most ⌝ }
+{
+    if a < b { b - a <= most } else { a - b <= most }
 }

@@ -2,7 +2,7 @@
 ghost use mathlib.Core.Path.{_≡_};
 ghost use Prim.Native.Nat.{_+_, _*_, _≤_};
 ghost use lib.IntN.{pos};
-ghost use Rattle.gain.specs.Choice.{nearest};
+ghost use Rattle.quantiser.specs.Choice.{nearest};
 
 // The index of the level nearest to `value` among `base`, `base + step`, .., `last` steps up.
 // It goes up while the value is above the threshold to the next level. Both sides are doubled, since the

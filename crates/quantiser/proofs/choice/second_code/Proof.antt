@@ -1,4 +1,4 @@
--- `gain::choice::second_code` meets its contract: it quantises the raised level among the raised levels of the 32 indices. Assumes nothing.
+-- `quantiser::choice::second_code` meets its contract: it quantises the raised level among the raised levels of the 32 indices. Assumes nothing.
 use mathlib.Core.Path.{_≡_, _∙_}
 use Prim.Native.Nat.{ℕ, _+_, _*_}
 use native.Mathlib.Omega.{arith}
@@ -6,10 +6,10 @@ use lib.IntN.{pos, _+ℤ_}
 use mir.Syntax.{w32}
 use mir.ValLaws.{toZ-ofZ}
 use borrow.Author.Needs.{needs}
 use Rattle.gain.specs.Levels.{level}
-use Rattle.gain.proofs.Raise.{nearest-raised}
-use Rattle.gain.proofs.choice.second_code.Statement.{statement}
-use Rattle.gain.proofs.choice.second_code.Tie as tie
+use Rattle.quantiser.proofs.Raise.{nearest-raised}
+use Rattle.quantiser.proofs.choice.second_code.Statement.{statement}
+use Rattle.quantiser.proofs.choice.second_code.Tie as tie
 
 add-quantise : tie.Need-add-quantise
 add-quantise c = search needs

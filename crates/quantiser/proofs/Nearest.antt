@@ -8,7 +8,7 @@ use native.Mathlib.Omega.{arith}
 use lib.Dec.{ltb}
 use lib.IntN.{ℤ}
 use borrow.Author.Tests.{ltb-true, ltb-false, lt-ltb, le-ltb}
-use Rattle.gain.specs.Choice.{distance, nearest}
+use Rattle.quantiser.specs.Choice.{distance, nearest}
 
 -- a number is less than another, or it is not
 less-or-not : (a b : ℕ) → (a < b) ⊎ (b ≤ a)

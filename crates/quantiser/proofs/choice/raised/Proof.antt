@@ -1,13 +1,13 @@
--- `gain::choice::raised` meets its contract: a level in range is far from the ends of the type, and 0 or above once raised. Assumes nothing.
+-- `quantiser::choice::raised` meets its contract: a level in range is far from the ends of the type, and 0 or above once raised. Assumes nothing.
 use mathlib.Core.Path.{refl}
 use native.Mathlib.Omega.{arith}
 use lib.IntN.{pos, _+ℤ_}
 use mir.Syntax.{w32}
 use mir.Val.{SFits}
 use mir.ValLaws.{toZ-ofZ}
-use Rattle.gain.proofs.Raise.{raised-in-range}
-use Rattle.gain.proofs.choice.raised.Statement.{statement}
-use Rattle.gain.proofs.choice.raised.Tie as tie
+use Rattle.quantiser.proofs.Raise.{raised-in-range}
+use Rattle.quantiser.proofs.choice.raised.Statement.{statement}
+use Rattle.quantiser.proofs.choice.raised.Tie as tie
 
 fits : (c : tie.Start) → SFits w32 (c .args .x +ℤ pos 18600)
 fits c =

@@ -4,9 +4,9 @@ use mathlib.Core.Bool.{Bool, _&&_, cond}
 use lib.Dec.{leb, ltb}
 use lib.IntN.{ℤ, pos, negℤ, natAbs, _-ℤ_}
 use lib.Signed.{leZ}
 use Rattle.gain.specs.Levels.{level, apart, mean, firstLevel}
-use Rattle.gain.specs.declared.CodesAnswer.{CodesAnswer}
-use Rattle.gain.specs.declared.CodesAnswer.the-variants.{Codes, Refused}
+use Rattle.quantiser.specs.declared.CodesAnswer.{CodesAnswer}
+use Rattle.quantiser.specs.declared.CodesAnswer.the-variants.{Codes, Refused}
 
 -- how far x is from the level l
 abbrev pub distance : ℤ → ℕ → ℕ

@@ -1,4 +1,4 @@
--- `gain::choice::choose` meets its contract: each answer goes by the tests of the ranges, and the codes are those that the calls give.
+-- `quantiser::choice::choose` meets its contract: each answer goes by the tests of the ranges, and the codes are those that the calls give.
 -- Assumes nothing.
 use mathlib.Core.Path.{_≡_, sym, _∙_}
 use mathlib.Core.Bool.{true, _&&_, and-eq-true-iff}
@@ -8,9 +8,9 @@ use mir.Syntax.{w32}
 use mir.ValLaws.{toZ-ofZ}
 use borrow.Author.Needs.{needs}
 use borrow.Author.Tests.{leb-true}
-use Rattle.gain.specs.Choice.{levelInRange, chosenG2, chosenG1, chooseAnswer}
-use Rattle.gain.proofs.choice.choose.Statement.{statement}
-use Rattle.gain.proofs.choice.choose.Tie as tie
+use Rattle.quantiser.specs.Choice.{levelInRange, chosenG2, chosenG1, chooseAnswer}
+use Rattle.quantiser.proofs.choice.choose.Statement.{statement}
+use Rattle.quantiser.proofs.choice.choose.Tie as tie
 
 level-in-range-requires : tie.Need-level-in-range-requires
 level-in-range-requires c κs = search needs

@@ -6,9 +6,9 @@ use Prim.Native.Nat.{ℕ, zero, suc, _+_, _-_, _*_, _≤_}
 use native.Mathlib.Omega.{arith}
 use lib.IntN.{ℤ, pos, negsuc, negℤ, natAbs, _+ℤ_, _-ℤ_, +ℤ-assoc, +ℤ-negℤ-cancel, negℤ-+ℤ}
 use borrow.Author.Tests.{leb-true, le-ltb}
 use Rattle.gain.specs.Levels.{apart}
-use Rattle.gain.specs.Choice.{distance, nearest, levelInRange}
-use Rattle.gain.proofs.Thresholds.{uniform, index, distance-is}
+use Rattle.quantiser.specs.Choice.{distance, nearest, levelInRange}
+use Rattle.quantiser.proofs.Thresholds.{uniform, index, distance-is}
 
 -- what is at the same distances has the same nearest index
 nearest-same : (lv mv : ℕ → ℕ) (x y : ℤ) → ((i : ℕ) → distance x (lv i) ≡ distance y (mv i)) →
