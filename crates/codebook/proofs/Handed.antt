@@ -21,6 +21,13 @@ row-length codebook k h =
     let d : 10 ≤ length (drop (10 * k) codebook) = simp length-drop (omega arith) in
     length-take-le 10 (drop (10 * k) codebook) d
 
+-- a row of a stage, and a row of magnitudes
+pub lsf-length : (codebook : List ℤ) (stage index : ℕ) → length codebook ≡ lsfSize → index < stageRows stage → length (lsfRow codebook stage index) ≡ 10
+lsf-length codebook stage index h i = row-length codebook (stageStart stage + index) (omega (arith, row-lt stage index i))
+
+pub magnitude-length : (codebook : List ℤ) (index : ℕ) → length codebook ≡ magnitudeSize → index < 256 → length (magnitudeRow codebook index) ≡ 10
+magnitude-length codebook index h i = row-length codebook index (omega arith)
+
 -- what is handed out for a row whose entries fit or not
 pub record Handed (row : List ℤ) (fit : Bool) (r : List ℤ) : Type 0 where
   pub ten : eqb (length r) 10 ≡ fit
@@ -31,20 +38,20 @@ handed : (row : List ℤ) (fit : Bool) (r : List ℤ) → length row ≡ 10 → 
 handed row true r h e = record { ten = eq-eqb (length r) 10 (ap length e ∙ h); whole = λ t. e }
 handed row false r h e = record { ten = ap (λ (s : List ℤ). eqb (length s) 10) e; whole = λ t. absurd (false≢true t) }
 
--- a row of a stage
+-- where it is of a stage
 pub lsf-handed : (codebook : List ℤ) (stage index : ℕ) (r : List ℤ) → length codebook ≡ lsfSize → index < stageRows stage
     → r ≡ rowUnless (lsfRowRefusal codebook stage index) (lsfRow codebook stage index)
     → Handed (lsfRow codebook stage index) (allFit lsfFits (lsfRow codebook stage index)) r
 lsf-handed codebook stage index r h i e =
     let t = lt-ltb index (stageRows stage) i in
     let w = eq-eqb (length codebook) lsfSize h in
-    handed _ _ r (row-length codebook (stageStart stage + index) (omega (arith, row-lt stage index i))) (simp (t, w) at e)
+    handed _ _ r (lsf-length codebook stage index h i) (simp (t, w) at e)
 
--- a row of magnitudes
+-- and where it is of magnitudes
 pub magnitude-handed : (codebook : List ℤ) (index : ℕ) (r : List ℤ) → length codebook ≡ magnitudeSize → index < 256
     → r ≡ rowUnless (magnitudeRowRefusal codebook index) (magnitudeRow codebook index)
     → Handed (magnitudeRow codebook index) (allFit magnitudeFits (magnitudeRow codebook index)) r
 magnitude-handed codebook index r h i e =
     let t = lt-ltb index 256 i in
     let w = eq-eqb (length codebook) magnitudeSize h in
-    handed _ _ r (row-length codebook index (omega arith)) (simp (t, w) at e)
+    handed _ _ r (magnitude-length codebook index h i) (simp (t, w) at e)

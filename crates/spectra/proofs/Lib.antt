@@ -2,5 +2,6 @@ pub mod Sizes
 pub mod Sums
 pub mod Raised
 pub mod Spaced
+pub mod Tens
 pub mod Owed
 pub mod FourRows
