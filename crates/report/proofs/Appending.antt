@@ -4,7 +4,7 @@ use mathlib.Core.List.{List, [], _∷_, _++_, append-nil, append-assoc}
 use Prim.Native.Nat.{ℕ, _+_, _≤_, _<_}
 use native.Mathlib.Omega.{arith}
 use native.Mathlib.Numerals.{add-one}
-use lib.ListN.{length, take, drop, set, length-append, length-set}
+use lib.ListN.{length, take, drop, set, length-append}
 use lib.Seq.{take-at, take-suc-set, length-take-le}
 use Rattle.report.specs.Placing.{written, Appended}
 
@@ -22,15 +22,6 @@ appended-more a b c at m n xs ys h k = (
 -- one byte stored
 pub byte-appended : (out : List ℕ) (at b : ℕ) → at < length out → Appended out at (b ∷ []) (set out at b) (at + 1)
 byte-appended out at b h = (refl, rw add-one (take-suc-set out at b h))
-
--- two bytes stored
-pub pair-appended : (out : List ℕ) (at a b : ℕ) → at + 1 < length out → Appended out at (a ∷ b ∷ []) (set (set out at a) (at + 1) b) (at + 2)
-pair-appended out at a b h =
-    let h′ : at + 1 < length (set out at a) = rw (length-set out at a) h in
-    let w =
-    appended-more out (set out at a) _ at (at + 1) (at + 1 + 1) (a ∷ []) (b ∷ []) (byte-appended out at a (omega arith)) (byte-appended (set out at a) (at + 1) b h′) in
-    let e : at + 1 + 1 ≡ at + 2 = omega arith in
-    rw e at w
 
 -- a text in a buffer is appended to what stands before it
 pub written-appended : (text : List ℕ) (at : ℕ) (out : List ℕ) → at ≤ length out → Appended out at text (written text at out) (at + length text)

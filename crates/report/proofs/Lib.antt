@@ -1,4 +1,5 @@
 pub mod Appending
+pub mod Writing
 pub mod Decimals
 pub mod Pairs
 pub mod Rooms

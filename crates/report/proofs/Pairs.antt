@@ -2,9 +2,10 @@
 use mathlib.Core.Path.{_≡_}
 use mathlib.Core.List.{List, [], _∷_}
 use Prim.Native.Nat.{ℕ, _+_, _/_, _%_, _≤_}
+use native.Mathlib.Omega.{arith}
 use lib.ListN.{length}
 use Rattle.report.specs.Text.{glyph, decimal}
-use Rattle.report.specs.Placing.{Appended}
+use Rattle.report.specs.Placing.{Wrote}
 use Rattle.report.proofs.Decimals.{decimal-pairs}
 use Rattle.report.proofs.Appending.{appended-more, first-fits, rest-fits}
 
@@ -22,6 +23,8 @@ module _ (n : ℕ) (many : 100 ≤ n) (at room : ℕ) where
   pair-fits end h e = rest-fits (decimal (n / 100)) (pair n) at end room (rw (decimal-pairs n many) at h) e
 
 -- both are the number
-pub pairs-appended : (n : ℕ) (a b c : List ℕ) (at m r : ℕ) → 100 ≤ n → Appended a at (decimal (n / 100)) b m → Appended b m (pair n) c r
-    → Appended a at (decimal n) c r
-pairs-appended n a b c at m r many h k = rw (decimal-pairs n many) (appended-more a b c at m r (decimal (n / 100)) (pair n) h k)
+pub pairs-wrote : (n : ℕ) (a b c : List ℕ) (at m r : ℕ) → 100 ≤ n → Wrote a at (decimal (n / 100)) (length (decimal (n / 100))) b m → Wrote b m (pair n) 2 c r
+    → Wrote a at (decimal n) (length (decimal n)) c r
+pairs-wrote n a b c at m r many h k =
+    let w = appended-more a b c at m r (decimal (n / 100)) (pair n) (h .0) (k .0) in
+    rw (decimal-pairs n many) (w, omega (arith, w .0), k .2)

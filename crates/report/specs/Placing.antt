@@ -1,6 +1,6 @@
 -- Document 01, "Refusals by place": a text put into a lent buffer from `at` on. An output shorter than the text is refused with 1; everything
 -- past the text, and before it, stays as it was.
-use Prim.Native.Nat.{ℕ, _+_}
+use Prim.Native.Nat.{ℕ, _+_, _≤_}
 use mathlib.Core.Path.{_≡_}
 use mathlib.Core.Bool.{Bool, true, false}
 use mathlib.Core.List.{List, _++_}
@@ -41,3 +41,11 @@ endOf (Refused n) at = at
 -- a helper of the code: bytes put after the first `at` of a buffer, which stay, and where they end
 abbrev pub Appended : List ℕ → ℕ → List ℕ → List ℕ → ℕ → Type 0
 Appended before at bytes after end = (end ≡ at + length bytes) × (take end after ≡ take at before ++ bytes)
+
+-- a line under way, of 144 bytes, with room for `most` of them from `at` on
+abbrev pub Ready : List ℕ → ℕ → ℕ → Type 0
+Ready line at most = (length line ≡ 144) × (at + most ≤ 144)
+
+-- bytes appended to it, at most `most` of them
+abbrev pub Wrote : List ℕ → ℕ → List ℕ → ℕ → List ℕ → ℕ → Type 0
+Wrote before at bytes most after end = Appended before at bytes after end × (end ≤ at + most) × (length after ≡ 144)

@@ -1,8 +1,10 @@
 // Bytes put one after another.
 use crate::LineAnswer;
 ghost use mathlib.Core.Path.{_≡_};
-ghost use Prim.Native.Nat.{_+_, _≤_};
-ghost use lib.ListN.{length};
+ghost use Prim.Native.Nat.{_+_, _≤_, _<_};
+ghost use mathlib.Core.List.{_++_};
+ghost use lib.ListN.{length, take};
+ghost use Rattle.report.specs.Text.{ascii};
 ghost use Rattle.report.specs.Placing.{written, placeAnswer, placeWrites, endOf, Appended};
 
 // Bytes to `at` and on; where they end.
@@ -29,6 +31,16 @@ pub(crate) fn place(text: &[u8], out: &mut [u8], at: usize) -> LineAnswer
         return LineAnswer::Refused(1);
     }
     LineAnswer::Written(append(text, out, at))
+}
+
+// A line whose text ends at `end`, with its line end, to `at` of the output and on, if there is room for it.
+pub(crate) fn place_line(line: &mut [u8], end: usize, out: &mut [u8], at: usize) -> LineAnswer
+    requires { ⌜ end < length (now line) ⌝ }
+    ensures { λ r. ⌜ (r ≡ placeAnswer (take end (now (line .entry)) ++ ascii "\n") at (length (now (out .entry))))
+        × (now (out .exit) ≡ placeWrites (take end (now (line .entry)) ++ ascii "\n") at (now (out .entry))) ⌝ }
+{
+    line[end] = b'\n';
+    place(&line[..end + 1], out, at)
 }
 
 // Where a text ends after the answer to a call for a line; one that was refused leaves it at `at`.

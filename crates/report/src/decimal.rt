@@ -1,67 +1,68 @@
 // Numbers in decimal.
-ghost use Prim.Native.Nat.{_+_, _*_, _≤_, _<_};
+use crate::Line;
+ghost use Prim.Native.Nat.{_<_};
 ghost use mathlib.Core.List.{[], _∷_};
 ghost use lib.ListN.{length};
 ghost use Rattle.report.specs.Text.{glyph, decimal};
-ghost use Rattle.report.specs.Placing.{Appended};
+ghost use Rattle.report.specs.Placing.{Ready, Wrote};
 
 // Two digits to `at` and on; where they end.
-fn write_pair(tens: u8, ones: u8, out: &mut [u8], at: usize) -> usize
-    requires { ⌜ (tens < 10) × (ones < 10) × (at + 2 ≤ length (now out)) ⌝ }
-    ensures { λ r. ⌜ Appended (now (out .entry)) at (glyph tens ∷ glyph ones ∷ []) (now (out .exit)) r ⌝ }
+fn write_pair(tens: u8, ones: u8, line: &mut Line, at: usize) -> usize
+    requires { ⌜ (tens < 10) × (ones < 10) × Ready (now line) at 2 ⌝ }
+    ensures { λ r. ⌜ Wrote (now (line .entry)) at (glyph tens ∷ glyph ones ∷ []) 2 (now (line .exit)) r ⌝ }
 {
-    out[at] = 48 + tens;
-    out[at + 1] = 48 + ones;
+    line[at] = 48 + tens;
+    line[at + 1] = 48 + ones;
     at + 2
 }
 
 // A number below a hundred.
-fn write_small(n: u8, out: &mut [u8], at: usize) -> usize
-    requires { ⌜ (n < 100) × (at + length (decimal n) ≤ length (now out)) ⌝ }
-    ensures { λ r. ⌜ Appended (now (out .entry)) at (decimal n) (now (out .exit)) r ⌝ }
+fn write_small(n: u8, line: &mut Line, at: usize) -> usize
+    requires { ⌜ (n < 100) × Ready (now line) at (length (decimal n)) ⌝ }
+    ensures { λ r. ⌜ Wrote (now (line .entry)) at (decimal n) (length (decimal n)) (now (line .exit)) r ⌝ }
 {
     if n < 10 {
-        out[at] = 48 + n;
+        line[at] = 48 + n;
         return at + 1;
     }
-    write_pair(n / 10, n % 10, out, at)
+    write_pair(n / 10, n % 10, line, at)
 }
 
 // A number below ten thousand.
-fn write_hundreds(n: u64, out: &mut [u8], at: usize) -> usize
-    requires { ⌜ (n < 10000) × (at + length (decimal n) ≤ length (now out)) ⌝ }
-    ensures { λ r. ⌜ Appended (now (out .entry)) at (decimal n) (now (out .exit)) r ⌝ }
+fn write_hundreds(n: u64, line: &mut Line, at: usize) -> usize
+    requires { ⌜ (n < 10000) × Ready (now line) at (length (decimal n)) ⌝ }
+    ensures { λ r. ⌜ Wrote (now (line .entry)) at (decimal n) (length (decimal n)) (now (line .exit)) r ⌝ }
 {
     if n < 100 {
-        return write_small(n as u8, out, at);
+        return write_small(n as u8, line, at);
     }
-    let end = write_small((n / 100) as u8, out, at);
-    write_pair((n / 10 % 10) as u8, (n % 10) as u8, out, end)
+    let end = write_small((n / 100) as u8, line, at);
+    write_pair((n / 10 % 10) as u8, (n % 10) as u8, line, end)
 }
 
 // Any number, a call for every two digits.
-fn write_long(n: u64, out: &mut [u8], at: usize) -> usize
-    requires { ⌜ at + length (decimal n) ≤ length (now out) ⌝ }
-    ensures { λ r. ⌜ Appended (now (out .entry)) at (decimal n) (now (out .exit)) r ⌝ }
+fn write_long(n: u64, line: &mut Line, at: usize) -> usize
+    requires { ⌜ Ready (now line) at (length (decimal n)) ⌝ }
+    ensures { λ r. ⌜ Wrote (now (line .entry)) at (decimal n) (length (decimal n)) (now (line .exit)) r ⌝ }
 {
     if n < 100 {
-        return write_small(n as u8, out, at);
+        return write_small(n as u8, line, at);
     }
-    let end = write_long(n / 100, out, at);
-    write_pair((n / 10 % 10) as u8, (n % 10) as u8, out, end)
+    let end = write_long(n / 100, line, at);
+    write_pair((n / 10 % 10) as u8, (n % 10) as u8, line, end)
 }
 
 // A number. Those of a frame's line have at most five digits, and are written with no further call.
-pub(crate) fn write_decimal(n: u64, out: &mut [u8], at: usize) -> usize
-    requires { ⌜ at + length (decimal n) ≤ length (now out) ⌝ }
-    ensures { λ r. ⌜ Appended (now (out .entry)) at (decimal n) (now (out .exit)) r ⌝ }
+pub(crate) fn write_decimal(n: u64, line: &mut Line, at: usize) -> usize
+    requires { ⌜ Ready (now line) at (length (decimal n)) ⌝ }
+    ensures { λ r. ⌜ Wrote (now (line .entry)) at (decimal n) (length (decimal n)) (now (line .exit)) r ⌝ }
 {
     if n < 10000 {
-        return write_hundreds(n, out, at);
+        return write_hundreds(n, line, at);
     }
     if n < 1000000 {
-        let end = write_hundreds(n / 100, out, at);
-        return write_pair((n / 10 % 10) as u8, (n % 10) as u8, out, end);
+        let end = write_hundreds(n / 100, line, at);
+        return write_pair((n / 10 % 10) as u8, (n % 10) as u8, line, end);
     }
-    write_long(n, out, at)
+    write_long(n, line, at)
 }

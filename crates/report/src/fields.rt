@@ -1,149 +1,112 @@
-// The parts of a frame's line.
-use crate::bytes::append;
-use crate::decimal::write_decimal;
+// The parts of a frame's line. A name is padded to 16 bytes by dots, which are not written.
+use crate::Line;
+use crate::names::write_byte;
+use crate::names::write_letter;
+use crate::names::write_level;
+use crate::names::write_name;
 use receiver::FrameResult;
 use receiver::Kind;
 use sets::Indices;
 use sets::ParameterSet;
-use sets::Voicing;
-ghost use Prim.Native.Nat.{_+_, _≤_};
-ghost use mathlib.Core.List.{_++_};
-ghost use lib.ListN.{length};
-ghost use Rattle.sets.specs.declared.ParameterSet.the-variants.{Unvoiced, Voiced};
-ghost use Rattle.report.specs.Text.{decimal, flag, field};
-ghost use Rattle.report.specs.Lines.{letter, lsfText, setText, parametersText, statusText, resultText};
-ghost use Rattle.report.specs.Placing.{Appended};
+ghost use mathlib.Core.Path.{_≡_};
+ghost use mathlib.Core.List.{[], _∷_};
+ghost use Rattle.report.specs.Text.{flag};
+ghost use Rattle.report.specs.Lines.{letter, lsfText, setText, resultText};
+ghost use Rattle.report.specs.Placing.{Ready, Wrote};
 
-// A name, and a number after it.
-fn write_number(name: &[u8], n: u64, out: &mut [u8], at: usize) -> usize
-    requires { ⌜ at + length (now name ++ decimal n) ≤ length (now out) ⌝ }
-    ensures { λ r. ⌜ Appended (now (out .entry)) at (now (name .entry) ++ decimal n) (now (out .exit)) r ⌝ }
-{
-    let end = append(name, out, at);
-    write_decimal(n, out, end)
-}
+const KIND: [u8; 16] = *b" kind=..........";
 
-// A name, and a number of eight bits after it.
-pub(crate) fn write_byte(name: &[u8], n: u8, out: &mut [u8], at: usize) -> usize
-    requires { ⌜ at + length (now name) + 3 ≤ length (now out) ⌝ }
-    ensures { λ r. ⌜ Appended (now (out .entry)) at (now (name .entry) ++ decimal n) (now (out .exit)) r × (r ≤ at + length (now (name .entry)) + 3) ⌝ }
-{
-    write_number(name, n as u64, out, at)
-}
+const PITCH: [u8; 16] = *b" pitch=.........";
 
-// A name, and a level after it.
-fn write_level(name: &[u8], n: u32, out: &mut [u8], at: usize) -> usize
-    requires { ⌜ at + length (now name) + 10 ≤ length (now out) ⌝ }
-    ensures { λ r. ⌜ Appended (now (out .entry)) at (now (name .entry) ++ decimal n) (now (out .exit)) r × (r ≤ at + length (now (name .entry)) + 10) ⌝ }
-{
-    write_number(name, n as u64, out, at)
-}
+const NO_PITCH: [u8; 16] = *b" pitch=-........";
 
-// A name, and a count after it.
-pub(crate) fn write_count(name: &[u8], n: u64, out: &mut [u8], at: usize) -> usize
-    requires { ⌜ at + length (now name) + 20 ≤ length (now out) ⌝ }
-    ensures { λ r. ⌜ Appended (now (out .entry)) at (now (name .entry) ++ decimal n) (now (out .exit)) r × (r ≤ at + length (now (name .entry)) + 20) ⌝ }
-{
-    write_number(name, n, out, at)
-}
+const LSF: [u8; 16] = *b" lsf=...........";
 
-// A name, and a bit after it.
-fn write_flag(name: &[u8], set: bool, out: &mut [u8], at: usize) -> usize
-    requires { ⌜ at + length (now name) + 1 ≤ length (now out) ⌝ }
-    ensures { λ r. ⌜ Appended (now (out .entry)) at (now (name .entry) ++ flag set) (now (out .exit)) r × (r ≤ at + length (now (name .entry)) + 1) ⌝ }
-{
-    let end = append(name, out, at);
-    if set {
-        append(b"1", out, end)
-    } else {
-        append(b"0", out, end)
-    }
-}
+const COMMA: [u8; 16] = *b",...............";
 
-// The kind.
-fn write_kind(kind: Kind, out: &mut [u8], at: usize) -> usize
-    requires { ⌜ at + 7 ≤ length (now out) ⌝ }
-    ensures { λ r. ⌜ Appended (now (out .entry)) at (field " kind=" (letter kind)) (now (out .exit)) r × (r ≤ at + 7) ⌝ }
+const BANDPASS: [u8; 16] = *b" bp=............";
+
+const FOURIER: [u8; 16] = *b" fm=............";
+
+const APERIODIC: [u8; 16] = *b" ap=............";
+
+const UNVOICED: [u8; 16] = *b" bp=- fm=- ap=-.";
+
+const FIRST: [u8; 16] = *b" g1=............";
+
+const SECOND: [u8; 16] = *b" g2=............";
+
+const SYNC: [u8; 16] = *b" sync=..........";
+
+const FIXED: [u8; 16] = *b" fixed=.........";
+
+const MUTE: [u8; 16] = *b" mute=..........";
+
+// The letter of a kind.
+fn letter_of(kind: Kind) -> u8
+    ensures { λ r. ⌜ (r ∷ []) ≡ letter kind ⌝ }
 {
     match kind {
-        Kind::Unvoiced => append(b" kind=U", out, at),
-        Kind::Voiced => append(b" kind=V", out, at),
-        Kind::Repeat => append(b" kind=R", out, at),
+        Kind::Unvoiced => b'U',
+        Kind::Voiced => b'V',
+        Kind::Repeat => b'R',
     }
+}
+
+// The digit of a bit.
+fn flag_of(set: bool) -> u8
+    ensures { λ r. ⌜ (r ∷ []) ≡ flag set ⌝ }
+{
+    if set {
+        return b'1';
+    }
+    b'0'
 }
 
 // The four LSF indices.
-fn write_lsf(x: Indices, out: &mut [u8], at: usize) -> usize
-    requires { ⌜ at + 20 ≤ length (now out) ⌝ }
-    ensures { λ r. ⌜ Appended (now (out .entry)) at (lsfText x) (now (out .exit)) r × (r ≤ at + 20) ⌝ }
+fn write_lsf(x: Indices, line: &mut Line, at: usize) -> usize
+    requires { ⌜ Ready (now line) at 20 ⌝ }
+    ensures { λ r. ⌜ Wrote (now (line .entry)) at (lsfText x) 20 (now (line .exit)) r ⌝ }
 {
-    let first = write_byte(b" lsf=", x.l1, out, at);
-    let second = write_byte(b",", x.l2, out, first);
-    let third = write_byte(b",", x.l3, out, second);
-    write_byte(b",", x.l4, out, third)
+    let first = write_byte(LSF, 5, x.l1, line, at);
+    let second = write_byte(COMMA, 1, x.l2, line, first);
+    let third = write_byte(COMMA, 1, x.l3, line, second);
+    write_byte(COMMA, 1, x.l4, line, third)
 }
 
-// An unvoiced set: a dash for what it lacks.
-fn write_unvoiced(x: Indices, out: &mut [u8], at: usize) -> usize
-    requires { ⌜ at + 43 ≤ length (now out) ⌝ }
-    ensures { λ r. ⌜ Appended (now (out .entry)) at (setText (Unvoiced x)) (now (out .exit)) r × (r ≤ at + 43) ⌝ }
-{
-    let pitch = append(b" pitch=-", out, at);
-    let lsf = write_lsf(x, out, pitch);
-    append(b" bp=- fm=- ap=-", out, lsf)
-}
-
-// A voiced set.
-fn write_voiced(x: Indices, v: Voicing, out: &mut [u8], at: usize) -> usize
-    requires { ⌜ at + 51 ≤ length (now out) ⌝ }
-    ensures { λ r. ⌜ Appended (now (out .entry)) at (setText (Voiced x v)) (now (out .exit)) r × (r ≤ at + 51) ⌝ }
-{
-    let pitch = write_byte(b" pitch=", v.pitch, out, at);
-    let lsf = write_lsf(x, out, pitch);
-    let bandpass = write_byte(b" bp=", v.bandpass, out, lsf);
-    let fourier = write_byte(b" fm=", v.fourier, out, bandpass);
-    write_byte(b" ap=", v.aperiodic, out, fourier)
-}
-
-// The set.
-fn write_set(set: ParameterSet, out: &mut [u8], at: usize) -> usize
-    requires { ⌜ at + 51 ≤ length (now out) ⌝ }
-    ensures { λ r. ⌜ Appended (now (out .entry)) at (setText set) (now (out .exit)) r × (r ≤ at + 51) ⌝ }
+// The set: a dash for what an unvoiced one lacks.
+fn write_set(set: ParameterSet, line: &mut Line, at: usize) -> usize
+    requires { ⌜ Ready (now line) at 51 ⌝ }
+    ensures { λ r. ⌜ Wrote (now (line .entry)) at (setText set) 51 (now (line .exit)) r ⌝ }
 {
     match set {
-        ParameterSet::Unvoiced(x) => write_unvoiced(x, out, at),
-        ParameterSet::Voiced(x, v) => write_voiced(x, v, out, at),
+        ParameterSet::Unvoiced(x) => {
+            let pitch = write_name(NO_PITCH, 8, line, at);
+            let lsf = write_lsf(x, line, pitch);
+            write_name(UNVOICED, 15, line, lsf)
+        }
+        ParameterSet::Voiced(x, v) => {
+            let pitch = write_byte(PITCH, 7, v.pitch, line, at);
+            let lsf = write_lsf(x, line, pitch);
+            let bandpass = write_byte(BANDPASS, 4, v.bandpass, line, lsf);
+            let fourier = write_byte(FOURIER, 4, v.fourier, line, bandpass);
+            write_byte(APERIODIC, 4, v.aperiodic, line, fourier)
+        }
     }
 }
 
-// Kind, set and levels.
-fn write_parameters(result: FrameResult, out: &mut [u8], at: usize) -> usize
-    requires { ⌜ at + 86 ≤ length (now out) ⌝ }
-    ensures { λ r. ⌜ Appended (now (out .entry)) at (parametersText result) (now (out .exit)) r × (r ≤ at + 86) ⌝ }
+// A result: kind, set and levels, then sync bit, repaired count and mute.
+pub(crate) fn write_result(result: FrameResult, line: &mut Line, at: usize) -> usize
+    requires { ⌜ Ready (now line) at 110 ⌝ }
+    ensures { λ r. ⌜ Wrote (now (line .entry)) at (resultText result) 110 (now (line .exit)) r ⌝ }
 {
     let kind = result.kind;
     let set = result.set;
-    let kind_end = write_kind(kind, out, at);
-    let set_end = write_set(set, out, kind_end);
-    let first = write_level(b" g1=", result.first, out, set_end);
-    write_level(b" g2=", result.second, out, first)
-}
-
-// Sync bit, repaired count and mute.
-fn write_status(result: FrameResult, out: &mut [u8], at: usize) -> usize
-    requires { ⌜ at + 24 ≤ length (now out) ⌝ }
-    ensures { λ r. ⌜ Appended (now (out .entry)) at (statusText result) (now (out .exit)) r × (r ≤ at + 24) ⌝ }
-{
-    let sync = write_flag(b" sync=", result.sync, out, at);
-    let repaired = write_byte(b" fixed=", result.repaired, out, sync);
-    write_flag(b" mute=", result.mute, out, repaired)
-}
-
-// All of a result.
-pub(crate) fn write_result(result: FrameResult, out: &mut [u8], at: usize) -> usize
-    requires { ⌜ at + 110 ≤ length (now out) ⌝ }
-    ensures { λ r. ⌜ Appended (now (out .entry)) at (resultText result) (now (out .exit)) r × (r ≤ at + 110) ⌝ }
-{
-    let parameters = write_parameters(result, out, at);
-    write_status(result, out, parameters)
+    let kind_end = write_letter(KIND, 6, letter_of(kind), line, at);
+    let set_end = write_set(set, line, kind_end);
+    let first = write_level(FIRST, 4, result.first, line, set_end);
+    let second = write_level(SECOND, 4, result.second, line, first);
+    let sync = write_letter(SYNC, 6, flag_of(result.sync), line, second);
+    let repaired = write_byte(FIXED, 7, result.repaired, line, sync);
+    write_letter(MUTE, 6, flag_of(result.mute), line, repaired)
 }

@@ -1,25 +1,29 @@
 // The line of a frame.
+use crate::Line;
 use crate::LineAnswer;
-use crate::bytes::append;
-use crate::bytes::place;
-use crate::decimal::write_decimal;
-use crate::fields::write_byte;
+use crate::bytes::place_line;
 use crate::fields::write_result;
+use crate::names::write_byte;
+use crate::names::write_number;
 use receiver::ReceiveAnswer;
 ghost use mathlib.Core.Path.{_≡_};
-ghost use Prim.Native.Nat.{_+_, _≤_};
+ghost use Prim.Native.Nat.{_≤_};
 ghost use lib.ListN.{length};
 ghost use Rattle.report.specs.Lines.{answerText, frameLine};
-ghost use Rattle.report.specs.Placing.{placeAnswer, placeWrites, Appended};
+ghost use Rattle.report.specs.Placing.{placeAnswer, placeWrites, Ready, Wrote};
+
+const FRAME: [u8; 16] = *b"frame=..........";
+
+const REFUSED: [u8; 16] = *b" refused=.......";
 
 // What a frame was answered.
-fn write_answer(answer: ReceiveAnswer, out: &mut [u8], at: usize) -> usize
-    requires { ⌜ at + 110 ≤ length (now out) ⌝ }
-    ensures { λ r. ⌜ Appended (now (out .entry)) at (answerText answer) (now (out .exit)) r × (r ≤ at + 110) ⌝ }
+fn write_answer(answer: ReceiveAnswer, line: &mut Line, at: usize) -> usize
+    requires { ⌜ Ready (now line) at 110 ⌝ }
+    ensures { λ r. ⌜ Wrote (now (line .entry)) at (answerText answer) 110 (now (line .exit)) r ⌝ }
 {
     match answer {
-        ReceiveAnswer::Result(result) => write_result(result, out, at),
-        ReceiveAnswer::Refused(n) => write_byte(b" refused=", n, out, at),
+        ReceiveAnswer::Result(result) => write_result(result, line, at),
+        ReceiveAnswer::Refused(n) => write_byte(REFUSED, 9, n, line, at),
     }
 }
 
@@ -30,9 +34,7 @@ pub fn frame_line(k: u64, answer: ReceiveAnswer, out: &mut [u8], at: usize) -> L
         × (length (frameLine k answer) ≤ 144) ⌝ }
 {
     let mut line = [0u8; 144];
-    let name = append(b"frame=", &mut line, 0);
-    let number = write_decimal(k, &mut line, name);
-    let answered = write_answer(answer, &mut line, number);
-    let end = append(b"\n", &mut line, answered);
-    place(&line[..end], out, at)
+    let number = write_number(FRAME, 6, k, &mut line, 0);
+    let end = write_answer(answer, &mut line, number);
+    place_line(&mut line, end, out, at)
 }

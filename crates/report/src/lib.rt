@@ -4,12 +4,14 @@
 //   summary  the first and the last line of a call
 //   values   the line of a value, and of a refusal
 //   fields   the parts of a frame's line
+//   names    a name, and what stands after it
 //   decimal  numbers
 //   bytes    bytes put one after another
 mod bytes;
 mod decimal;
 mod fields;
 mod frames;
+mod names;
 mod summary;
 mod values;
 
@@ -19,6 +21,9 @@ pub use summary::first_line;
 pub use summary::last_line;
 pub use values::refusal_line;
 pub use values::value_line;
+
+// A line while it is written.
+type Line = [u8; 144];
 
 // The answer to a call that writes a line.
 pub enum LineAnswer {

@@ -1,13 +1,19 @@
 // The first and the last line of a call.
 use crate::LineAnswer;
-use crate::bytes::append;
 use crate::bytes::place;
-use crate::fields::write_count;
+use crate::bytes::place_line;
+use crate::names::write_number;
 ghost use mathlib.Core.Path.{_≡_};
 ghost use Prim.Native.Nat.{_≤_};
 ghost use lib.ListN.{length};
 ghost use Rattle.report.specs.Lines.{firstLine, lastLine};
 ghost use Rattle.report.specs.Placing.{placeAnswer, placeWrites};
+
+const FRAMES: [u8; 16] = *b"frames=.........";
+
+const REPEATS: [u8; 16] = *b" repeats=.......";
+
+const LEFT: [u8; 16] = *b" left=..........";
 
 // The first line, to `at` and on. Refused: 1, the buffer ends before the line.
 pub fn first_line(out: &mut [u8], at: usize) -> LineAnswer
@@ -24,9 +30,8 @@ pub fn last_line(frames: u64, repeats: u64, left: u64, out: &mut [u8], at: usize
         × (length (lastLine frames repeats left) ≤ 144) ⌝ }
 {
     let mut line = [0u8; 144];
-    let first = write_count(b"frames=", frames, &mut line, 0);
-    let second = write_count(b" repeats=", repeats, &mut line, first);
-    let third = write_count(b" left=", left, &mut line, second);
-    let end = append(b"\n", &mut line, third);
-    place(&line[..end], out, at)
+    let first = write_number(FRAMES, 7, frames, &mut line, 0);
+    let second = write_number(REPEATS, 9, repeats, &mut line, first);
+    let third = write_number(LEFT, 6, left, &mut line, second);
+    place_line(&mut line, third, out, at)
 }

@@ -1,26 +1,29 @@
 // The line of a value, and of a refusal.
+use crate::Line;
 use crate::LineAnswer;
-use crate::bytes::append;
-use crate::bytes::place;
+use crate::bytes::place_line;
 use crate::decimal::write_decimal;
-use crate::fields::write_byte;
+use crate::names::write_byte;
 ghost use mathlib.Core.Path.{_≡_};
-ghost use Prim.Native.Nat.{_+_, _≤_};
+ghost use Prim.Native.Nat.{_≤_};
 ghost use lib.ListN.{length};
 ghost use lib.IntN.{natAbs};
 ghost use Rattle.report.specs.Text.{sign};
 ghost use Rattle.report.specs.Lines.{valueLine, refusalLine};
-ghost use Rattle.report.specs.Placing.{placeAnswer, placeWrites, Appended};
+ghost use Rattle.report.specs.Placing.{placeAnswer, placeWrites, Ready, Wrote};
+
+const REFUSED: [u8; 16] = *b"refused=........";
 
 // The minus of a negative number, nothing else.
-fn write_sign(x: i64, out: &mut [u8], at: usize) -> usize
-    requires { ⌜ at + 1 ≤ length (now out) ⌝ }
-    ensures { λ r. ⌜ Appended (now (out .entry)) at (sign x) (now (out .exit)) r × (r ≤ at + 1) ⌝ }
+fn write_sign(x: i64, line: &mut Line) -> usize
+    requires { ⌜ Ready (now line) 0 1 ⌝ }
+    ensures { λ r. ⌜ Wrote (now (line .entry)) 0 (sign x) 1 (now (line .exit)) r ⌝ }
 {
     if x < 0 {
-        return append(b"-", out, at);
+        line[0] = b'-';
+        return 1;
     }
-    at
+    0
 }
 
 // A number without its sign.
@@ -39,11 +42,10 @@ pub fn value_line(x: i64, out: &mut [u8], at: usize) -> LineAnswer
         × (now (out .exit) ≡ placeWrites (valueLine x) at (now (out .entry)))
         × (length (valueLine x) ≤ 22) ⌝ }
 {
-    let mut line = [0u8; 22];
-    let digits = write_sign(x, &mut line, 0);
-    let number = write_decimal(size_of(x), &mut line, digits);
-    let end = append(b"\n", &mut line, number);
-    place(&line[..end], out, at)
+    let mut line = [0u8; 144];
+    let digits = write_sign(x, &mut line);
+    let end = write_decimal(size_of(x), &mut line, digits);
+    place_line(&mut line, end, out, at)
 }
 
 // The line of a refusal, to `at` and on; it has at most 22 bytes. Refused: 1, the buffer ends before the line.
@@ -52,8 +54,7 @@ pub fn refusal_line(n: u8, out: &mut [u8], at: usize) -> LineAnswer
         × (now (out .exit) ≡ placeWrites (refusalLine n) at (now (out .entry)))
         × (length (refusalLine n) ≤ 22) ⌝ }
 {
-    let mut line = [0u8; 22];
-    let number = write_byte(b"refused=", n, &mut line, 0);
-    let end = append(b"\n", &mut line, number);
-    place(&line[..end], out, at)
+    let mut line = [0u8; 144];
+    let end = write_byte(REFUSED, 8, n, &mut line, 0);
+    place_line(&mut line, end, out, at)
 }

@@ -5,7 +5,7 @@ use native.Mathlib.Omega.{arith}
 use borrow.Author.Needs.{needs}
 use borrow.Fn.Kinds.{In}
 use borrow.Fn.PlainCycle.{Measures, is, falls, and}
-use Rattle.report.proofs.Pairs.{hundreds-fit, pair-fits, pairs-appended}
+use Rattle.report.proofs.Pairs.{hundreds-fit, pair-fits, pairs-wrote}
 use Rattle.report.proofs.decimal.write_long.Reads as own
 use Rattle.report.proofs.decimal.write_long.Kinds as kinds
 use Rattle.report.proofs.decimal.+write_long.Lts-write_long as lts
@@ -30,17 +30,14 @@ cast-write-small t c = search needs
 write-small-requires : (t : ℕ) → lts.Need-write-small-requires (small.Asked, small.Learnt, below t, own.Post, pair.Asked, pair.Learnt) (at·t t) own.Post
 write-small-requires t c κs = (search needs, search needs)
 
-same-length : (t : ℕ) → lts.Need-same-length (small.Asked, small.Learnt, below t, own.Post, pair.Asked, pair.Learnt) (at·t t) own.Post
-same-length t c = search needs
-
 returns : (t : ℕ) → lts.Need-returns (small.Asked, small.Learnt, below t, own.Post, pair.Asked, pair.Learnt) (at·t t) own.Post
 returns t c = search needs
 
 write-long-requires : (t : ℕ) → lts.Need-write-long-requires (small.Asked, small.Learnt, below t, own.Post, pair.Asked, pair.Learnt) (at·t t) own.Post
 write-long-requires t c κs =
     let i = c .before in
-    let s = i .before .before in
-    (omega arith, hundreds-fit (s .args .n) (i .if1 .left) _ _ (s .pre .1))
+    let s = i .before in
+    (omega arith, (s .pre .1 .0, hundreds-fit (s .args .n) (i .if1 .left) _ _ (s .pre .1 .1)))
 
 cast-write-pair : (t : ℕ) → lts.Need-cast-write-pair (small.Asked, small.Learnt, below t, own.Post, pair.Asked, pair.Learnt) (at·t t) own.Post
 cast-write-pair t c = search needs
@@ -50,31 +47,25 @@ cast-write-pair-2 t c = search needs
 
 write-pair-requires : (t : ℕ) → lts.Need-write-pair-requires (small.Asked, small.Learnt, below t, own.Post, pair.Asked, pair.Learnt) (at·t t) own.Post
 write-pair-requires t c κs =
-    let d = c .before .before .before in
+    let d = c .before in
     let i = d .before .before in
-    let s = i .before .before in
-    (omega arith, omega arith, rw (d .write-long .kept .1 .0) (pair-fits (s .args .n) (i .if1 .left) _ _ _ (s .pre .1) (d .write-long .ensures .0)))
-
-same-length-2 : (t : ℕ) → lts.Need-same-length-2 (small.Asked, small.Learnt, below t, own.Post, pair.Asked, pair.Learnt) (at·t t) own.Post
-same-length-2 t c = search needs
+    let s = i .before in
+    (omega arith, omega arith, (d .write-long .ensures .2, pair-fits (s .args .n) (i .if1 .left) _ _ _ (s .pre .1 .1) (d .write-long .ensures .0 .0)))
 
 returns-2 : (t : ℕ) → lts.Need-returns-2 (small.Asked, small.Learnt, below t, own.Post, pair.Asked, pair.Learnt) (at·t t) own.Post
 returns-2 t c =
-    let w = c .before .before in
-    let d = w .before .before .before .before in
+    let d = c .before .before in
     let i = d .before .before in
-    let s = i .before .before in
-    pairs-appended (s .args .n) (s .args .out .now) _ _ (s .args .at) _ _ (i .if1 .left) (d .write-long .ensures) (w .write-pair .ensures)
+    let s = i .before in
+    pairs-wrote (s .args .n) (s .args .line .now) _ _ (s .args .at) _ _ (i .if1 .left) (d .write-long .ensures) (c .write-pair .ensures)
 
 pub +write-long-spec : {M : Type 1} → statement M
 +write-long-spec = close μ-write-long λ t. lts.spec (small.Asked, small.Learnt, below t, own.Post, pair.Asked, pair.Learnt) (at·t t) own.Post
     (cast-write-small t)
     (write-small-requires t)
-    (same-length t)
     (returns t)
     (write-long-requires t)
     (cast-write-pair t)
     (cast-write-pair-2 t)
     (write-pair-requires t)
-    (same-length-2 t)
     (returns-2 t)

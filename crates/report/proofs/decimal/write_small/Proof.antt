@@ -3,49 +3,42 @@ use native.Mathlib.Omega.{arith}
 use borrow.Author.Needs.{needs}
 use Rattle.report.specs.Text.{glyph}
 use Rattle.report.proofs.Decimals.{decimal-one, decimal-two}
-use Rattle.report.proofs.Appending.{byte-appended}
+use Rattle.report.proofs.Writing.{byte-wrote}
 use Rattle.report.proofs.decimal.write_small.Statement.{statement}
 use Rattle.report.proofs.decimal.write_small.Tie as tie
 
-add-out : tie.Need-add-out
-add-out c = search needs
+add-line : tie.Need-add-line
+add-line c = search needs
 
-slice-write-out : tie.Need-slice-write-out
-slice-write-out c =
-    let s = c .before .before in
-    let p = rw (decimal-one (s .args .n) (c .if1 .taken)) at (s .pre .1) in
+element-write-line : tie.Need-element-write-line
+element-write-line c =
+    let s = c .before in
+    let p = rw (decimal-one (s .args .n) (c .if1 .taken)) at (s .pre .1 .1) in
     omega (arith, p)
 
 add-result : tie.Need-add-result
 add-result c = search needs
 
-same-length : tie.Need-same-length
-same-length c = search needs
-
 returns : tie.Need-returns
 returns c =
-    let s = c .before .before in
+    let s = c .before in
     let a = s .args in
-    let p = rw (decimal-one (a .n) (c .if1 .taken)) at (s .pre .1) in
-    rw (decimal-one (a .n) (c .if1 .taken)) (byte-appended (a .out .now) (a .at) (glyph (a .n)) (omega (arith, p)))
+    let p = rw (decimal-one (a .n) (c .if1 .taken)) at (s .pre .1 .1) in
+    rw (decimal-one (a .n) (c .if1 .taken)) (byte-wrote (a .line .now) (a .at) (glyph (a .n)) (s .pre .1 .0) (omega (arith, p)))
 
 write-pair-requires : tie.Need-write-pair-requires
 write-pair-requires c κs =
     let t = c .before in
-    let s = t .before .before in
-    let p = rw (decimal-two (s .args .n) (t .if1 .left) (s .pre .0)) at (s .pre .1) in
-    (omega arith, omega arith, omega (arith, p))
-
-same-length-2 : tie.Need-same-length-2
-same-length-2 c = search needs
+    let s = t .before in
+    let p = rw (decimal-two (s .args .n) (t .if1 .left) (s .pre .0)) at (s .pre .1 .1) in
+    (omega arith, omega arith, (s .pre .1 .0, omega (arith, p)))
 
 returns-2 : tie.Need-returns-2
 returns-2 c =
-    let w = c .before .before in
-    let t = w .before .before in
-    let s = t .before .before in
-    rw (decimal-two (s .args .n) (t .if1 .left) (s .pre .0)) (w .write-pair .ensures)
+    let t = c .before .before in
+    let s = t .before in
+    rw (decimal-two (s .args .n) (t .if1 .left) (s .pre .0)) (c .write-pair .ensures)
 
 pub write-small-spec : {M : Type 1} → statement M
 write-small-spec =
-    tie.close (tie.spec add-out slice-write-out add-result same-length returns write-pair-requires same-length-2 returns-2)
+    tie.close (tie.spec add-line element-write-line add-result returns write-pair-requires returns-2)
