@@ -40,19 +40,7 @@ fn write_hundreds(n: u64, line: &mut Line, at: usize) -> usize
     write_pair((n / 10 % 10) as u8, (n % 10) as u8, line, end)
 }
 
-// Any number, a call for every two digits.
-fn write_long(n: u64, line: &mut Line, at: usize) -> usize
-    requires { ⌜ Ready (now line) at (length (decimal n)) ⌝ }
-    ensures { λ r. ⌜ Wrote (now (line .entry)) at (decimal n) (length (decimal n)) (now (line .exit)) r ⌝ }
-{
-    if n < 100 {
-        return write_small(n as u8, line, at);
-    }
-    let end = write_long(n / 100, line, at);
-    write_pair((n / 10 % 10) as u8, (n % 10) as u8, line, end)
-}
-
-// A number. Those of a frame's line have at most five digits, and are written with no further call.
+// A number. Those of a frame's line have at most six digits, and are written with no call of itself.
 pub(crate) fn write_decimal(n: u64, line: &mut Line, at: usize) -> usize
     requires { ⌜ Ready (now line) at (length (decimal n)) ⌝ }
     ensures { λ r. ⌜ Wrote (now (line .entry)) at (decimal n) (length (decimal n)) (now (line .exit)) r ⌝ }
@@ -64,5 +52,6 @@ pub(crate) fn write_decimal(n: u64, line: &mut Line, at: usize) -> usize
         let end = write_hundreds(n / 100, line, at);
         return write_pair((n / 10 % 10) as u8, (n % 10) as u8, line, end);
     }
-    write_long(n, line, at)
+    let end = write_decimal(n / 100, line, at);
+    write_pair((n / 10 % 10) as u8, (n % 10) as u8, line, end)
 }
