@@ -56,7 +56,3 @@ decimal-length (suc k) n h =
     go : (t : Bool) → ltb n 10 ≡ t → length (decimal (n / 10)) ≤ suc k → length (decimal n) ≤ suc (suc k)
     go true e i = rw (decimal-one n (ltb-true n 10 e)) (omega arith)
     go false e i = rw (decimal-more n (ltb-false n 10 e), length-append (decimal (n / 10)) (glyph (n % 10) ∷ [])) (omega arith)
-
--- a name and such a number after it
-pub named-length : (k n : ℕ) (name : List ℕ) → n < 10 ^ suc k → length (name ++ decimal n) ≤ length name + suc k
-named-length k n name h = rw (length-append name (decimal n)) (omega (arith, decimal-length k n h))

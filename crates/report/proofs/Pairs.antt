@@ -23,8 +23,8 @@ module _ (n : ℕ) (many : 100 ≤ n) (at room : ℕ) where
   pair-fits end h e = rest-fits (decimal (n / 100)) (pair n) at end room (rw (decimal-pairs n many) at h) e
 
 -- both are the number
-pub pairs-wrote : (n : ℕ) (a b c : List ℕ) (at m r : ℕ) → 100 ≤ n → Wrote a at (decimal (n / 100)) (length (decimal (n / 100))) b m → Wrote b m (pair n) 2 c r
-    → Wrote a at (decimal n) (length (decimal n)) c r
+pub pairs-wrote : (n : ℕ) (a b c : List ℕ) (at m r : ℕ) → 100 ≤ n
+    → Wrote a at (decimal (n / 100)) (length (decimal (n / 100))) b m → Wrote b m (pair n) 2 c r → Wrote a at (decimal n) (length (decimal n)) c r
 pairs-wrote n a b c at m r many h k =
     let w = appended-more a b c at m r (decimal (n / 100)) (pair n) (h .0) (k .0) in
     rw (decimal-pairs n many) (w, omega (arith, w .0), k .2)

@@ -1,6 +1,6 @@
 -- `report::decimal::write_decimal` meets its contract: the last two digits of a number stand after those of its hundreds. It ends because the
 -- number falls. Assumes nothing.
-use Prim.Native.Nat.{ℕ, _≤_, _<_}
+use Prim.Native.Nat.{ℕ, _<_}
 use native.Mathlib.Omega.{arith}
 use borrow.Author.Needs.{needs}
 use borrow.Fn.Kinds.{In}
@@ -28,10 +28,6 @@ below t = and 1 kinds.ps (falls 1 kinds.ps _<_ μ-write-decimal t) own.Pre
 abbrev claims : ℕ → lts.Claims
 claims t = (hundreds.Asked, hundreds.Learnt, pair.Asked, pair.Learnt, below t, own.Post)
 
--- a number that is not small has hundreds
-many : (n : ℕ) → 10000 ≤ n → 100 ≤ n
-many n h = omega arith
-
 write-hundreds-requires : (t : ℕ) → lts.Need-write-hundreds-requires (claims t) (at·t t) own.Post
 write-hundreds-requires t c κs = omega arith
 
@@ -41,7 +37,7 @@ returns t c = c .write-hundreds .ensures
 write-hundreds-requires-2 : (t : ℕ) → lts.Need-write-hundreds-requires-2 (claims t) (at·t t) own.Post
 write-hundreds-requires-2 t c κs =
     let s = c .before .before .before in
-    (omega arith, (s .pre .1 .0, hundreds-fit (s .args .n) (many _ (c .before .before .if1 .left)) _ _ (s .pre .1 .1)))
+    (omega arith, (s .pre .1 .0, hundreds-fit (s .args .n) (omega arith) _ _ (s .pre .1 .1)))
 
 cast-write-pair : (t : ℕ) → lts.Need-cast-write-pair (claims t) (at·t t) own.Post
 cast-write-pair t c = search needs
@@ -51,23 +47,20 @@ cast-write-pair-2 t c = search needs
 
 write-pair-requires : (t : ℕ) → lts.Need-write-pair-requires (claims t) (at·t t) own.Post
 write-pair-requires t c κs =
-    let d = c .before in
-    let e = d .before .before .before in
-    let s = e .before in
-    let w = d .write-hundreds2 .ensures in
-    (omega arith, omega arith, (w .2, pair-fits (s .args .n) (many _ (e .if1 .left)) _ _ _ (s .pre .1 .1) (w .0 .0)))
+    let s = c .before .before .before .before .before in
+    let w = c .before .write-hundreds2 .ensures in
+    (omega arith, omega arith, (w .2, pair-fits (s .args .n) (omega arith) _ _ _ (s .pre .1 .1) (w .0 .0)))
 
 returns-2 : (t : ℕ) → lts.Need-returns-2 (claims t) (at·t t) own.Post
 returns-2 t c =
     let d = c .before .before in
-    let e = d .before .before .before in
-    let s = e .before in
-    pairs-wrote (s .args .n) (s .args .line .now) _ _ (s .args .at) _ _ (many _ (e .if1 .left)) (d .write-hundreds2 .ensures) (c .write-pair .ensures)
+    let a = d .before .before .before .before .args in
+    pairs-wrote (a .n) (a .line .now) _ _ (a .at) _ _ (omega arith) (d .write-hundreds2 .ensures) (c .write-pair .ensures)
 
 write-decimal-requires : (t : ℕ) → lts.Need-write-decimal-requires (claims t) (at·t t) own.Post
 write-decimal-requires t c κs =
     let s = c .before .before .before in
-    (omega arith, (s .pre .1 .0, hundreds-fit (s .args .n) (many _ (c .before .before .if1 .left)) _ _ (s .pre .1 .1)))
+    (omega arith, (s .pre .1 .0, hundreds-fit (s .args .n) (omega arith) _ _ (s .pre .1 .1)))
 
 cast-write-pair-3 : (t : ℕ) → lts.Need-cast-write-pair-3 (claims t) (at·t t) own.Post
 cast-write-pair-3 t c = search needs
@@ -77,18 +70,15 @@ cast-write-pair-4 t c = search needs
 
 write-pair-requires-2 : (t : ℕ) → lts.Need-write-pair-requires-2 (claims t) (at·t t) own.Post
 write-pair-requires-2 t c κs =
-    let d = c .before in
-    let e = d .before .before .before in
-    let s = e .before in
-    let w = d .write-decimal .ensures in
-    (omega arith, omega arith, (w .2, pair-fits (s .args .n) (many _ (e .if1 .left)) _ _ _ (s .pre .1 .1) (w .0 .0)))
+    let s = c .before .before .before .before .before in
+    let w = c .before .write-decimal .ensures in
+    (omega arith, omega arith, (w .2, pair-fits (s .args .n) (omega arith) _ _ _ (s .pre .1 .1) (w .0 .0)))
 
 returns-3 : (t : ℕ) → lts.Need-returns-3 (claims t) (at·t t) own.Post
 returns-3 t c =
     let d = c .before .before in
-    let e = d .before .before .before in
-    let s = e .before in
-    pairs-wrote (s .args .n) (s .args .line .now) _ _ (s .args .at) _ _ (many _ (e .if1 .left)) (d .write-decimal .ensures) (c .write-pair2 .ensures)
+    let a = d .before .before .before .before .args in
+    pairs-wrote (a .n) (a .line .now) _ _ (a .at) _ _ (omega arith) (d .write-decimal .ensures) (c .write-pair2 .ensures)
 
 pub +write-decimal-spec : {M : Type 1} → statement M
 +write-decimal-spec = close μ-write-decimal λ t. lts.spec (claims t) (at·t t) own.Post

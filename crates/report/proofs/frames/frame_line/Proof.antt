@@ -31,7 +31,8 @@ returns c =
     let d2 = p .before .before .before in
     let d1 = d2 .before .before in
     let a = d1 .before .before .before .args in
-    let w = wrote-more (replicate 144 0) _ _ 0 _ _ 26 110 (field "frame=" (decimal (a .k))) (answerText (a .answer)) (d1 .write-number .ensures) (d2 .write-answer .ensures) in
+    let p1 = field "frame=" (decimal (a .k)) in
+    let w = wrote-more (replicate 144 0) _ _ 0 _ _ 26 110 p1 (answerText (a .answer)) (d1 .write-number .ensures) (d2 .write-answer .ensures) in
     line-placed (replicate 144 0) _ _ _ 136 144 (a .out .now) _ (a .at) _ w (omega arith) (p .place-line .ensures)
 
 pub frame-line-spec : {M : Type 1} → statement M

@@ -26,7 +26,8 @@ returns c =
     let p = c .before .before .before in
     let d = p .before .before .before in
     let a = d .before .before .before .args in
-    line-placed (replicate 144 0) _ (field "refused=" (decimal (a .n))) _ 11 22 (a .out .now) _ (a .at) _ (d .write-byte .ensures) (omega arith) (p .place-line .ensures)
+    let t = field "refused=" (decimal (a .n)) in
+    line-placed (replicate 144 0) _ t _ 11 22 (a .out .now) _ (a .at) _ (d .write-byte .ensures) (omega arith) (p .place-line .ensures)
 
 pub refusal-line-spec : {M : Type 1} → statement M
 refusal-line-spec =
