@@ -1,5 +1,6 @@
-// The parts of a frame's line. A name is padded to 16 bytes by dots, which are not written.
+// The parts of a frame's line.
 use crate::Line;
+use crate::Name;
 use crate::names::write_byte;
 use crate::names::write_letter;
 use crate::names::write_level;
@@ -14,33 +15,33 @@ ghost use Rattle.report.specs.Text.{flag};
 ghost use Rattle.report.specs.Lines.{letter, lsfText, setText, resultText};
 ghost use Rattle.report.specs.Placing.{Ready, Wrote};
 
-const KIND: [u8; 16] = *b" kind=..........";
+const KIND: Name = *b" kind=..........";
 
-const PITCH: [u8; 16] = *b" pitch=.........";
+const PITCH: Name = *b" pitch=.........";
 
-const NO_PITCH: [u8; 16] = *b" pitch=-........";
+const NO_PITCH: Name = *b" pitch=-........";
 
-const LSF: [u8; 16] = *b" lsf=...........";
+const LSF: Name = *b" lsf=...........";
 
-const COMMA: [u8; 16] = *b",...............";
+const COMMA: Name = *b",...............";
 
-const BANDPASS: [u8; 16] = *b" bp=............";
+const BANDPASS: Name = *b" bp=............";
 
-const FOURIER: [u8; 16] = *b" fm=............";
+const FOURIER: Name = *b" fm=............";
 
-const APERIODIC: [u8; 16] = *b" ap=............";
+const APERIODIC: Name = *b" ap=............";
 
-const UNVOICED: [u8; 16] = *b" bp=- fm=- ap=-.";
+const UNVOICED: Name = *b" bp=- fm=- ap=-.";
 
-const FIRST: [u8; 16] = *b" g1=............";
+const FIRST: Name = *b" g1=............";
 
-const SECOND: [u8; 16] = *b" g2=............";
+const SECOND: Name = *b" g2=............";
 
-const SYNC: [u8; 16] = *b" sync=..........";
+const SYNC: Name = *b" sync=..........";
 
-const FIXED: [u8; 16] = *b" fixed=.........";
+const FIXED: Name = *b" fixed=.........";
 
-const MUTE: [u8; 16] = *b" mute=..........";
+const MUTE: Name = *b" mute=..........";
 
 // The letter of a kind.
 fn letter_of(kind: Kind) -> u8

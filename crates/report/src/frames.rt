@@ -1,6 +1,7 @@
 // The line of a frame.
 use crate::Line;
 use crate::LineAnswer;
+use crate::Name;
 use crate::bytes::place_line;
 use crate::fields::write_result;
 use crate::names::write_byte;
@@ -12,9 +13,9 @@ ghost use lib.ListN.{length};
 ghost use Rattle.report.specs.Lines.{answerText, frameLine};
 ghost use Rattle.report.specs.Placing.{placeAnswer, placeWrites, Ready, Wrote};
 
-const FRAME: [u8; 16] = *b"frame=..........";
+const FRAME: Name = *b"frame=..........";
 
-const REFUSED: [u8; 16] = *b" refused=.......";
+const REFUSED: Name = *b" refused=.......";
 
 // What a frame was answered.
 fn write_answer(answer: ReceiveAnswer, line: &mut Line, at: usize) -> usize

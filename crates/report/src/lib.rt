@@ -25,6 +25,9 @@ pub use values::value_line;
 // A line while it is written.
 type Line = [u8; 144];
 
+// A name in its first bytes. Dots fill it up, and are not written.
+type Name = [u8; 16];
+
 // The answer to a call that writes a line.
 pub enum LineAnswer {
     // Where the line ends.

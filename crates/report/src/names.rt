@@ -1,5 +1,6 @@
 // A name, and what stands after it.
 use crate::Line;
+use crate::Name;
 use crate::bytes::append;
 use crate::decimal::write_decimal;
 ghost use Prim.Native.Nat.{_+_, _≤_};
@@ -9,7 +10,7 @@ ghost use Rattle.report.specs.Text.{decimal};
 ghost use Rattle.report.specs.Placing.{Ready, Wrote};
 
 // The first `width` bytes of a name, to `at` and on; where they end.
-pub(crate) fn write_name(name: [u8; 16], width: usize, line: &mut Line, at: usize) -> usize
+pub(crate) fn write_name(name: Name, width: usize, line: &mut Line, at: usize) -> usize
     requires { ⌜ (width ≤ 16) × Ready (now line) at width ⌝ }
     ensures { λ r. ⌜ Wrote (now (line .entry)) at (take width name) width (now (line .exit)) r ⌝ }
 {
@@ -18,7 +19,7 @@ pub(crate) fn write_name(name: [u8; 16], width: usize, line: &mut Line, at: usiz
 
 // A name, and a byte after it.
 pub(crate) fn write_letter(
-    name: [u8; 16],
+    name: Name,
     width: usize,
     letter: u8,
     line: &mut Line,
@@ -33,13 +34,7 @@ pub(crate) fn write_letter(
 }
 
 // A name, and a number after it.
-pub(crate) fn write_number(
-    name: [u8; 16],
-    width: usize,
-    n: u64,
-    line: &mut Line,
-    at: usize,
-) -> usize
+pub(crate) fn write_number(name: Name, width: usize, n: u64, line: &mut Line, at: usize) -> usize
     requires { ⌜ (width ≤ 16) × Ready (now line) at (width + 20) ⌝ }
     ensures { λ r. ⌜ Wrote (now (line .entry)) at (take width name ++ decimal n) (width + 20) (now (line .exit)) r ⌝ }
 {
@@ -48,7 +43,7 @@ pub(crate) fn write_number(
 }
 
 // A name, and a number of 32 bits after it.
-pub(crate) fn write_level(name: [u8; 16], width: usize, n: u32, line: &mut Line, at: usize) -> usize
+pub(crate) fn write_level(name: Name, width: usize, n: u32, line: &mut Line, at: usize) -> usize
     requires { ⌜ (width ≤ 16) × Ready (now line) at (width + 10) ⌝ }
     ensures { λ r. ⌜ Wrote (now (line .entry)) at (take width name ++ decimal n) (width + 10) (now (line .exit)) r ⌝ }
 {
@@ -57,7 +52,7 @@ pub(crate) fn write_level(name: [u8; 16], width: usize, n: u32, line: &mut Line,
 }
 
 // A name, and a number of eight bits after it.
-pub(crate) fn write_byte(name: [u8; 16], width: usize, n: u8, line: &mut Line, at: usize) -> usize
+pub(crate) fn write_byte(name: Name, width: usize, n: u8, line: &mut Line, at: usize) -> usize
     requires { ⌜ (width ≤ 16) × Ready (now line) at (width + 3) ⌝ }
     ensures { λ r. ⌜ Wrote (now (line .entry)) at (take width name ++ decimal n) (width + 3) (now (line .exit)) r ⌝ }
 {

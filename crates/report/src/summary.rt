@@ -1,5 +1,6 @@
 // The first and the last line of a call.
 use crate::LineAnswer;
+use crate::Name;
 use crate::bytes::place;
 use crate::bytes::place_line;
 use crate::names::write_number;
@@ -9,11 +10,11 @@ ghost use lib.ListN.{length};
 ghost use Rattle.report.specs.Lines.{firstLine, lastLine};
 ghost use Rattle.report.specs.Placing.{placeAnswer, placeWrites};
 
-const FRAMES: [u8; 16] = *b"frames=.........";
+const FRAMES: Name = *b"frames=.........";
 
-const REPEATS: [u8; 16] = *b" repeats=.......";
+const REPEATS: Name = *b" repeats=.......";
 
-const LEFT: [u8; 16] = *b" left=..........";
+const LEFT: Name = *b" left=..........";
 
 // The first line, to `at` and on. Refused: 1, the buffer ends before the line.
 pub fn first_line(out: &mut [u8], at: usize) -> LineAnswer

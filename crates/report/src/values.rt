@@ -1,6 +1,7 @@
 // The line of a value, and of a refusal.
 use crate::Line;
 use crate::LineAnswer;
+use crate::Name;
 use crate::bytes::place_line;
 use crate::decimal::write_decimal;
 use crate::names::write_byte;
@@ -12,7 +13,7 @@ ghost use Rattle.report.specs.Text.{sign};
 ghost use Rattle.report.specs.Lines.{valueLine, refusalLine};
 ghost use Rattle.report.specs.Placing.{placeAnswer, placeWrites, Ready, Wrote};
 
-const REFUSED: [u8; 16] = *b"refused=........";
+const REFUSED: Name = *b"refused=........";
 
 // The minus of a negative number, nothing else.
 fn write_sign(x: i64, line: &mut Line) -> usize
