@@ -13,7 +13,7 @@ add-line c = search needs
 element-write-line : tie.Need-element-write-line
 element-write-line c =
     let s = c .before in
-    let p = rw (decimal-one (s .args .n) (c .if1 .taken)) at (s .pre .1 .1) in
+    let p = rw (decimal-one (s .args .n) (omega arith)) at (s .pre .1 .1) in
     omega (arith, p)
 
 add-result : tie.Need-add-result
@@ -23,21 +23,19 @@ returns : tie.Need-returns
 returns c =
     let s = c .before in
     let a = s .args in
-    let p = rw (decimal-one (a .n) (c .if1 .taken)) at (s .pre .1 .1) in
-    rw (decimal-one (a .n) (c .if1 .taken)) (byte-wrote (a .line .now) (a .at) (glyph (a .n)) (s .pre .1 .0) (omega (arith, p)))
+    let p = rw (decimal-one (a .n) (omega arith)) at (s .pre .1 .1) in
+    rw (decimal-one (a .n) (omega arith)) (byte-wrote (a .line .now) (a .at) (glyph (a .n)) (s .pre .1 .0) (omega (arith, p)))
 
 write-pair-requires : tie.Need-write-pair-requires
 write-pair-requires c κs =
-    let t = c .before in
-    let s = t .before in
-    let p = rw (decimal-two (s .args .n) (t .if1 .left) (s .pre .0)) at (s .pre .1 .1) in
+    let s = c .before .before in
+    let p = rw (decimal-two (s .args .n) (omega arith) (s .pre .0)) at (s .pre .1 .1) in
     (omega arith, omega arith, (s .pre .1 .0, omega (arith, p)))
 
 returns-2 : tie.Need-returns-2
 returns-2 c =
-    let t = c .before .before in
-    let s = t .before in
-    rw (decimal-two (s .args .n) (t .if1 .left) (s .pre .0)) (c .write-pair .ensures)
+    let s = c .before .before .before in
+    rw (decimal-two (s .args .n) (omega arith) (s .pre .0)) (c .write-pair .ensures)
 
 pub write-small-spec : {M : Type 1} → statement M
 write-small-spec =
