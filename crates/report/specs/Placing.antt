@@ -42,7 +42,7 @@ endOf (Refused n) at = at
 abbrev pub Appended : List ℕ → ℕ → List ℕ → List ℕ → ℕ → Type 0
 Appended before at bytes after end = (end ≡ at + length bytes) × (take end after ≡ take at before ++ bytes)
 
--- a line under way, of 144 bytes, with room for `most` of them from `at` on
+-- helpers of the code too: a line under way, of 144 bytes, with room for `most` of them from `at` on
 abbrev pub Ready : List ℕ → ℕ → ℕ → Type 0
 Ready line at most = (length line ≡ 144) × (at + most ≤ 144)
 
