@@ -1,5 +1,7 @@
--- Claims about lists. Helpers of every section of document 01.
-use mathlib.Core.List.{List, [], _∷_}
+-- Claims about lists, and what a lent list holds after a call. Helpers of every section of document 01.
+use Prim.Native.Nat.{ℕ, zero, suc}
+use mathlib.Core.List.{List, [], _∷_, _++_}
+use lib.ListN.{drop}
 
 -- a claim about every element
 abbrev pub Every : {A : Type 0} → (A → Type 0) → List A → Type 0
@@ -11,3 +13,8 @@ abbrev pub Successive : {A : Type 0} → (A → A → Type 0) → List A → Typ
 Successive P [] = Unit
 Successive P (x ∷ []) = Unit
 Successive P (x ∷ y ∷ ys) = P x y × Successive P (y ∷ ys)
+
+-- what a lent output holds afterwards, by the number of the refusal: n new values in front and all past them kept; after a refusal all kept
+abbrev pub writtenUnless : {A : Type 0} → ℕ → ℕ → List A → List A → List A
+writtenUnless zero n front out = front ++ drop n out
+writtenUnless (suc r) n front out = out

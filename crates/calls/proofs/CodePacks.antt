@@ -12,7 +12,8 @@ use denote.Triple.Clauses.{AtExit}
 use Rattle.order.specs.Order.{defaultOrder}
 use Rattle.order.proofs.Frames.{frame-length}
 use Rattle.frame.specs.Layout.{logicalOf, frame}
-use Rattle.frame.specs.Packing.{packRefusal, packedUnless, packAnswer, writtenUnless, packWrites}
+use Rattle.bits.specs.Lists.{writtenUnless}
+use Rattle.frame.specs.Packing.{packRefusal, packedUnless, packAnswer, packWrites}
 use Rattle.sets.specs.declared.ParameterSet.{ParameterSet}
 use Rattle.frame.specs.declared.PackAnswer.{PackAnswer}
 use Rattle.frame.proofs.pack as pack
@@ -53,7 +54,7 @@ module _ (ord : List ℕ) (set : ParameterSet) (sync : Bool) where
 
   -- what the contract says is the model's step, whatever the refusal
   pub pack-step : (lent : List ℕ) (n : ℕ) → packRefusal set (length lent) ≡ n
-      → PackStep ord (packCall set sync lent (packedUnless n sync) (writtenUnless n ord set sync lent))
+      → PackStep ord (packCall set sync lent (packedUnless n sync) (writtenUnless n 7 (frame ord set sync) lent))
   pack-step lent zero e = record {
     outcome = (λ i. record { answer = done (front (drop 7 lent) i); state = not sync }) ∙ sym (ap (λ (n : ℕ). packUnless n ord sync set) e);
     output = ap (λ (l : List ℕ). l ++ drop 7 lent) (sym (front (drop 7 lent)));

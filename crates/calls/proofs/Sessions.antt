@@ -9,8 +9,8 @@ use lib.Dec.{T}
 use lib.ListN.{length}
 use Rattle.order.specs.Order.{frameRefusal}
 use Rattle.order.proofs.Refusals.{packed-taken, through-taken}
-use Rattle.frame.specs.Layout.{logicalOf}
-use Rattle.frame.specs.Packing.{freshSync, packRefusal, packedUnless, writtenUnless}
+use Rattle.frame.specs.Layout.{logicalOf, frame}
+use Rattle.frame.specs.Packing.{freshSync, packRefusal, packedUnless}
 use Rattle.records.specs.Records.{valid}
 use Rattle.receiver.specs.Receiving.{receive}
 use Rattle.records.specs.declared.Record.{Record}
@@ -19,7 +19,7 @@ use Rattle.receiver.proofs.Validity.{receive-valid}
 use Rattle.calls.specs.Model.{PackArguments}
 use Rattle.calls.specs.Observed.{PackCall, ReceiveCall, packLeft, sent, PackStep, PackRun}
 use Rattle.calls.specs.Observed.{ReceiveRun, keepUnless, unrefused, packCallRefusal, receiveCallRefusal, channel}
-use Rattle.bits.specs.Lists.{Every}
+use Rattle.bits.specs.Lists.{Every, writtenUnless}
 use Rattle.calls.specs.Claim.{Had}
 use Rattle.calls.proofs.Runs.{run-every, run-unrefused, run-weaken}
 use Rattle.calls.proofs.Steps.{pack-sent, pack-leaves}
@@ -32,7 +32,7 @@ module _ (ord : List ℕ) where
   abbrev pub packOne : Bool → PackArguments → PackCall
   packOne s x =
       packCall (x .set) s (x .lent) (packedUnless (packRefusal (x .set) (length (x .lent))) s)
-      (writtenUnless (packRefusal (x .set) (length (x .lent))) ord (x .set) s (x .lent))
+      (writtenUnless (packRefusal (x .set) (length (x .lent))) 7 (frame ord (x .set) s) (x .lent))
 
   abbrev pub receiveOne : Record → List ℕ → ReceiveCall
   receiveOne r b = receiveCall r b (receive ord r b .answer) (receive ord r b .next)

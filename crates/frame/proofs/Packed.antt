@@ -12,7 +12,8 @@ use Rattle.order.specs.Order.{defaultOrder, frameOf}
 use Rattle.order.specs.Word.{wordBit}
 use Rattle.sets.specs.Sets.{sendable}
 use Rattle.frame.specs.Layout.{words, others, unvoicedWords, voicedWords, logical, frame}
-use Rattle.frame.specs.Packing.{packRefusal, packedUnless, packAnswer, writtenUnless, packWrites}
+use Rattle.bits.specs.Lists.{writtenUnless}
+use Rattle.frame.specs.Packing.{packRefusal, packedUnless, packAnswer, packWrites}
 use Rattle.sets.specs.declared.ParameterSet.{ParameterSet}
 use Rattle.sets.specs.declared.ParameterSet.the-variants.{Unvoiced, Voiced}
 use Rattle.frame.specs.declared.PackAnswer.{PackAnswer}
@@ -34,9 +35,9 @@ abbrev Owed : ParameterSet → Bool → List ℕ → PackAnswer → List ℕ →
 Owed set sync out r after = (r ≡ packAnswer set sync (length out)) × (after ≡ packWrites set sync out)
 
 module _ (set : ParameterSet) (sync : Bool) (out : List ℕ) where
-  owes : (n : ℕ) → packRefusal set (length out) ≡ n → Owed set sync out (packedUnless n sync) (writtenUnless n defaultOrder set sync out)
+  owes : (n : ℕ) → packRefusal set (length out) ≡ n → Owed set sync out (packedUnless n sync) (writtenUnless n 7 (frame defaultOrder set sync) out)
   unfolding packAnswer packWrites
-  owes n e = (ap (λ (m : ℕ). packedUnless m sync) (sym e), ap (λ (m : ℕ). writtenUnless m defaultOrder set sync out) (sym e))
+  owes n e = (ap (λ (m : ℕ). packedUnless m sync) (sym e), ap (λ (m : ℕ). writtenUnless m 7 (frame defaultOrder set sync) out) (sym e))
 
   -- an output that is too short
   pub short-owes : length out < 7 → Owed set sync out (Refused 1) out

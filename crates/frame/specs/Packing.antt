@@ -1,9 +1,10 @@
 -- Document 01, "Order of the bits" and "Refusals by place": what a packing call answers and leaves.
 use Prim.Native.Nat.{ℕ, zero, suc}
 use mathlib.Core.Bool.{Bool, false, not, cond}
-use mathlib.Core.List.{List, _++_}
+use mathlib.Core.List.{List}
 use lib.Dec.{ltb}
-use lib.ListN.{length, drop}
+use lib.ListN.{length}
+use Rattle.bits.specs.Lists.{writtenUnless}
 use Rattle.order.specs.Order.{defaultOrder}
 use Rattle.sets.specs.Sets.{sendable}
 use Rattle.frame.specs.Layout.{frame}
@@ -28,9 +29,5 @@ unfoldable pub packAnswer : ParameterSet → Bool → ℕ → PackAnswer
 packAnswer set sync room = packedUnless (packRefusal set room) sync
 
 -- the output afterwards: the frame in front and all past the seventh byte kept; after a refusal all kept
-abbrev pub writtenUnless : ℕ → List ℕ → ParameterSet → Bool → List ℕ → List ℕ
-writtenUnless zero ord set sync out = frame ord set sync ++ drop 7 out
-writtenUnless (suc n) ord set sync out = out
-
 unfoldable pub packWrites : ParameterSet → Bool → List ℕ → List ℕ
-packWrites set sync out = writtenUnless (packRefusal set (length out)) defaultOrder set sync out
+packWrites set sync out = writtenUnless (packRefusal set (length out)) 7 (frame defaultOrder set sync) out

@@ -10,12 +10,12 @@ use Rattle.records.specs.Records.{fresh}
 use Rattle.receiver.specs.Steps.{accepted, repeated}
 use Rattle.receiver.specs.Receiving.{receive}
 use Rattle.report.specs.Text.{digits, decimal}
-use Rattle.report.specs.Lines.{lsfText, setText, parametersText, statusText, resultText, frameLine, lastLine}
+use Rattle.report.specs.Lines.{lsfText, setText, resultText, frameLine, lastLine}
 use Rattle.hear.specs.Call.{recordAfter, answerAt, textBefore, repeatsBefore, text}
 use Rattle.hear.specs.Example.{Example}
 
 pub example : Example
 unfolding classOf fixOf decode placeOf orderBy defaultOrder bitAt firstLevel words others unvoicedWords logical read fresh accepted repeated receive
-    digits decimal lsfText setText parametersText statusText resultText frameLine lastLine
+    digits decimal lsfText setText resultText frameLine lastLine
     recordAfter answerAt textBefore repeatsBefore text
 example = refl

@@ -37,17 +37,16 @@ setText (Voiced x v) =
     ++ field " fm=" (decimal (v .fourier))
     ++ field " ap=" (decimal (v .aperiodic))
 
--- a result: kind, set and levels
-unfoldable pub parametersText : FrameResult → List ℕ
-parametersText r =
-    field " kind=" (letter (r .kind)) ++ setText (r .set) ++ field " g1=" (decimal (r .first)) ++ field " g2=" (decimal (r .second))
-
--- then sync bit, repaired count and mute
-unfoldable pub statusText : FrameResult → List ℕ
-statusText r = field " sync=" (flag (r .sync)) ++ field " fixed=" (decimal (r .repaired)) ++ field " mute=" (flag (r .mute))
-
+-- a result: kind, set and levels, then sync bit, repaired count and mute
 unfoldable pub resultText : FrameResult → List ℕ
-resultText r = parametersText r ++ statusText r
+resultText r =
+    field " kind=" (letter (r .kind))
+    ++ setText (r .set)
+    ++ field " g1=" (decimal (r .first))
+    ++ field " g2=" (decimal (r .second))
+    ++ field " sync=" (flag (r .sync))
+    ++ field " fixed=" (decimal (r .repaired))
+    ++ field " mute=" (flag (r .mute))
 
 -- what a frame was answered
 abbrev pub answerText : ReceiveAnswer → List ℕ

@@ -1,11 +1,12 @@
 -- Document 01, "LSF and magnitude values" and "Refusals by place": the ten values of a set, and what a call for them answers and leaves.
 use Prim.Native.Nat.{ℕ, zero, suc}
 use mathlib.Core.Bool.{Bool, true, _&&_, cond}
-use mathlib.Core.List.{List, [], _∷_, _++_}
+use mathlib.Core.List.{List, [], _∷_}
 use lib.Dec.{ltb, eqb}
-use lib.ListN.{length, drop, replicate}
+use lib.ListN.{length, replicate}
 use lib.IntN.{ℤ, pos, _+ℤ_}
 use lib.Signed.{ltZ}
+use Rattle.bits.specs.Lists.{writtenUnless}
 use Rattle.sets.specs.Sets.{indicesIn, inRange}
 use Rattle.sets.specs.declared.Indices.{Indices}
 use Rattle.sets.specs.declared.ParameterSet.{ParameterSet}
@@ -80,18 +81,13 @@ abbrev pub answerUnless : ℕ → ValuesAnswer
 answerUnless zero = Written
 answerUnless (suc n) = Refused (suc n)
 
--- the output afterwards: the values in front and all past the tenth number kept; after a refusal all kept
-abbrev pub writtenUnless : ℕ → List ℤ → List ℤ → List ℤ
-writtenUnless zero values out = values ++ drop 10 out
-writtenUnless (suc n) values out = out
-
 -- what a call for LSF values answers, for an output of `room` numbers
 unfoldable pub lsfAnswer : ParameterSet → List ℤ → ℕ → ValuesAnswer
 lsfAnswer set codebook room = answerUnless (lsfRefusal set codebook room)
 
--- and what its output holds afterwards
+-- and what its output holds afterwards: the values in front and all past the tenth number kept; after a refusal all kept
 unfoldable pub lsfWrites : ParameterSet → List ℤ → List ℤ → List ℤ
-lsfWrites set codebook out = writtenUnless (lsfRefusal set codebook (length out)) (lsfValues codebook set) out
+lsfWrites set codebook out = writtenUnless (lsfRefusal set codebook (length out)) 10 (lsfValues codebook set) out
 
 -- what a call for magnitudes answers
 unfoldable pub magnitudesAnswer : ParameterSet → List ℤ → ℕ → ValuesAnswer
@@ -99,4 +95,4 @@ magnitudesAnswer set codebook room = answerUnless (magnitudesRefusal set codeboo
 
 -- and what its output holds afterwards
 unfoldable pub magnitudesWrites : ParameterSet → List ℤ → List ℤ → List ℤ
-magnitudesWrites set codebook out = writtenUnless (magnitudesRefusal set codebook (length out)) (magnitudes codebook set) out
+magnitudesWrites set codebook out = writtenUnless (magnitudesRefusal set codebook (length out)) 10 (magnitudes codebook set) out

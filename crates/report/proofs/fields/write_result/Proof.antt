@@ -3,7 +3,7 @@ use mathlib.Core.List.{_++_}
 use native.Mathlib.Omega.{arith}
 use borrow.Author.Needs.{needs}
 use Rattle.report.specs.Text.{ascii, decimal, flag, field}
-use Rattle.report.specs.Lines.{letter, setText, parametersText, statusText, resultText}
+use Rattle.report.specs.Lines.{letter, setText, resultText}
 use Rattle.report.proofs.Writing.{wrote-more, wrote-is}
 use Rattle.report.proofs.fields.write_result.Statement.{statement}
 use Rattle.report.proofs.fields.write_result.Tie as tie
@@ -39,7 +39,7 @@ write-letter-requires-3 : tie.Need-write-letter-requires-3
 write-letter-requires-3 c κs = omega arith
 
 returns : tie.Need-returns
-unfolding resultText parametersText statusText
+unfolding resultText
 returns d7 =
     let f2 = d7 .before .before in
     let d6 = f2 .before in
@@ -66,9 +66,9 @@ returns d7 =
     let w2 = wrote-more l _ _ (a .at) _ _ 7 51 p1 p2 e1 (d2 .write-set .ensures) in
     let w3 = wrote-more l _ _ (a .at) _ _ 58 14 (p1 ++ p2) p3 w2 (d3 .write-level .ensures) in
     let w4 = wrote-more l _ _ (a .at) _ _ 72 14 (p1 ++ p2 ++ p3) p4 w3 (d4 .write-level2 .ensures) in
-    let v2 = wrote-more _ _ _ _ _ _ 7 10 s1 s2 e5 (d6 .write-byte .ensures) in
-    let v3 = wrote-more _ _ _ _ _ _ 17 7 (s1 ++ s2) s3 v2 e7 in
-    wrote-more l _ _ (a .at) _ _ 86 24 (p1 ++ p2 ++ p3 ++ p4) (s1 ++ s2 ++ s3) w4 v3
+    let w5 = wrote-more l _ _ (a .at) _ _ 86 7 (p1 ++ p2 ++ p3 ++ p4) s1 w4 e5 in
+    let w6 = wrote-more l _ _ (a .at) _ _ 93 10 (p1 ++ p2 ++ p3 ++ p4 ++ s1) s2 w5 (d6 .write-byte .ensures) in
+    wrote-more l _ _ (a .at) _ _ 103 7 (p1 ++ p2 ++ p3 ++ p4 ++ s1 ++ s2) s3 w6 e7
 
 pub write-result-spec : {M : Type 1} → statement M
 write-result-spec =

@@ -1,8 +1,6 @@
 -- `report::fields::write_set` meets its contract: each kind of set has its parts, one after the other. Assumes nothing.
-use mathlib.Core.List.{_++_}
 use native.Mathlib.Omega.{arith}
 use borrow.Author.Needs.{needs}
-use Rattle.report.specs.Text.{ascii}
 use Rattle.report.specs.Lines.{setText}
 use Rattle.report.proofs.Writing.{wrote-more, wrote-within}
 use Rattle.report.proofs.fields.write_set.Statement.{statement}
