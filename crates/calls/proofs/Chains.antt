@@ -13,13 +13,13 @@ use Rattle.frame.specs.Layout.{frame}
 use Rattle.reading.specs.Reads.{read}
 use Rattle.sets.proofs.Ranges.{sendable-fits}
 use Rattle.records.specs.Records.{valid}
-use Rattle.receiver.specs.Steps.{accepted}
+use Rattle.results.specs.Steps.{accepted}
 use Rattle.receiver.specs.Receiving.{receive}
-use Rattle.receiver.specs.declared.FrameResult.{FrameResult}
+use Rattle.results.specs.declared.FrameResult.{FrameResult}
 use Rattle.records.specs.declared.Record.{Record}
-use Rattle.receiver.specs.declared.ReceiveAnswer.{ReceiveAnswer}
-use Rattle.receiver.specs.declared.ReceiveAnswer.the-variants.{Result}
-use Rattle.receiver.specs.declared.Received.{Received}
+use Rattle.results.specs.declared.ReceiveAnswer.{ReceiveAnswer}
+use Rattle.results.specs.declared.ReceiveAnswer.the-variants.{Result}
+use Rattle.results.specs.declared.Received.{Received}
 use Rattle.receiver.proofs.Answers.{resultIn, step-answers}
 use Rattle.receiver.proofs.Results.{packed-accepted, arrived-taken}
 use Rattle.receiver.proofs.Validity.{accepted-valid}

@@ -6,10 +6,10 @@ use Prim.Native.Nat.{ℕ}
 use lib.Dec.{T}
 use Rattle.order.specs.Order.{Order}
 use Rattle.records.specs.Records.{valid}
-use Rattle.receiver.specs.Steps.{accepted}
+use Rattle.results.specs.Steps.{accepted}
 use Rattle.receiver.specs.Receiving.{receive}
 use Rattle.records.specs.declared.Record.{Record}
-use Rattle.receiver.specs.declared.Received.{Received}
+use Rattle.results.specs.declared.Received.{Received}
 use Rattle.receiver.proofs.Answers.{resultIn}
 use Rattle.receiver.proofs.Results.{packed-accepted}
 use Rattle.calls.specs.Observed.{PackCall, ReceiveCall, sent, PackStep, ReceiveStep, packCallRefusal}

@@ -11,7 +11,7 @@ use Rattle.frame.specs.Layout.{frame}
 use Rattle.records.specs.Records.{valid}
 use Rattle.receiver.specs.Receiving.{receive}
 use Rattle.records.specs.declared.Record.{Record}
-use Rattle.receiver.specs.declared.Received.{Received}
+use Rattle.results.specs.declared.Received.{Received}
 use Rattle.receiver.proofs.Answers.{resultIn}
 use Rattle.receiver.proofs.Taken.{not-refused-only}
 use Rattle.calls.specs.Observed.{PackCall, ReceiveCall, sent, PackStep, ReceiveStep, PackRun, ReceiveRun, packCallRefusal, receiveCallRefusal, channel}

@@ -9,7 +9,7 @@ use Rattle.quantiser.specs.Choice.{nearest, chosenG1}
 use Rattle.frame.specs.Layout.{words, others, unvoicedWords, logical}
 use Rattle.reading.specs.Reads.{read}
 use Rattle.records.specs.Records.{fresh}
-use Rattle.receiver.specs.Steps.{accepted, repeated}
+use Rattle.results.specs.Steps.{accepted, repeated}
 use Rattle.receiver.specs.Receiving.{receive}
 use Rattle.spectra.specs.Values.{raised}
 use Rattle.examples.specs.Examples.{Examples}

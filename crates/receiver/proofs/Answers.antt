@@ -9,12 +9,12 @@ use Rattle.reading.specs.declared.Reading.{Reading}
 use Rattle.reading.specs.declared.Reading.the-variants.{Accepted, Erased}
 use Rattle.frame.proofs.Kept.{voicedOrErased}
 use Rattle.records.specs.Records.{fresh}
-use Rattle.receiver.specs.Steps.{accepted, repeated, step}
-use Rattle.receiver.specs.declared.FrameResult.{FrameResult}
-use Rattle.receiver.specs.declared.Kind.the-variants as kind
+use Rattle.results.specs.Steps.{accepted, repeated, step}
+use Rattle.results.specs.declared.FrameResult.{FrameResult}
+use Rattle.results.specs.declared.Kind.the-variants as kind
 use Rattle.records.specs.declared.Record.{Record}
-use Rattle.receiver.specs.declared.ReceiveAnswer.{ReceiveAnswer}
-use Rattle.receiver.specs.declared.ReceiveAnswer.the-variants.{Result, Refused}
+use Rattle.results.specs.declared.ReceiveAnswer.{ReceiveAnswer}
+use Rattle.results.specs.declared.ReceiveAnswer.the-variants.{Result, Refused}
 
 -- the result in an answer; a refusal has none, and stands for one that is never used
 abbrev pub resultIn : ReceiveAnswer → FrameResult

@@ -24,11 +24,11 @@ use Rattle.sets.proofs.Ranges.{voicing-ranges}
 use Rattle.frame.proofs.Repaired.{seen}
 use Rattle.frame.proofs.Ordered.{packed-returns, correctable-returns, double-erased, voiced-returns}
 use Rattle.records.specs.Records.{valid}
-use Rattle.receiver.specs.Steps.{accepted, repeated, step}
+use Rattle.results.specs.Steps.{accepted, repeated, step}
 use Rattle.receiver.specs.Receiving.{receive}
-use Rattle.receiver.specs.declared.Kind.the-variants as kind
+use Rattle.results.specs.declared.Kind.the-variants as kind
 use Rattle.records.specs.declared.Record.{Record}
-use Rattle.receiver.specs.declared.Received.{Received}
+use Rattle.results.specs.declared.Received.{Received}
 use Rattle.receiver.proofs.Answers.{resultIn, step-kind}
 use Rattle.receiver.proofs.Taken.{not-refused, receive-taken}
 

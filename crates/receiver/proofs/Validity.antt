@@ -14,7 +14,7 @@ use Rattle.reading.specs.declared.Reading.the-variants.{Accepted, Erased}
 use Rattle.sets.proofs.Ranges.{set-ranges}
 use Rattle.reading.proofs.Fits.{readingFits, read-fits}
 use Rattle.records.specs.Records.{fresh, valid}
-use Rattle.receiver.specs.Steps.{accepted, repeated, step}
+use Rattle.results.specs.Steps.{accepted, repeated, step}
 use Rattle.receiver.specs.Receiving.{receiveRefusal, receiveUnless, receive}
 use Rattle.records.specs.declared.Record.{Record}
 

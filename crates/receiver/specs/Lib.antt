@@ -1,3 +1,2 @@
-pub mod Steps
 pub mod Receiving
 pub mod Sync
