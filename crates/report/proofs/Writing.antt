@@ -1,12 +1,13 @@
 -- A line under way: what is written to it in turn, and how long it gets. Assumes nothing.
 use mathlib.Core.Path.{_≡_}
 use mathlib.Core.List.{List, [], _∷_, _++_}
-use Prim.Native.Nat.{ℕ, _+_, _≤_, _<_}
+use Prim.Native.Nat.{ℕ, suc, _+_, _^_, _≤_, _<_}
 use native.Mathlib.Omega.{arith}
 use lib.ListN.{length, take, set, length-append, length-set}
-use Rattle.report.specs.Text.{ascii}
+use Rattle.report.specs.Text.{ascii, decimal}
 use Rattle.report.specs.Placing.{placeAnswer, placeWrites, Wrote}
 use Rattle.report.specs.declared.LineAnswer.{LineAnswer}
+use Rattle.report.proofs.Decimals.{decimal-length}
 use Rattle.report.proofs.Appending.{appended-more, byte-appended}
 
 -- one after the other
@@ -16,6 +17,12 @@ wrote-more a b c at m n p q xs ys h k = (appended-more a b c at m n xs ys (h .0)
 -- at most so many are at most more
 pub wrote-within : (a b : List ℕ) (at m p q : ℕ) (xs : List ℕ) → p ≤ q → Wrote a at xs p b m → Wrote a at xs q b m
 wrote-within a b at m p q xs l h = (h .0, omega (arith, h .1), h .2)
+
+-- a number of at most k + 1 digits after it
+pub number-wrote : (a b c : List ℕ) (at m end p k n : ℕ) (xs : List ℕ) → n < 10 ^ suc k → Wrote a at xs p b m
+    → Wrote b m (decimal n) (length (decimal n)) c end → Wrote a at (xs ++ decimal n) (p + suc k) c end
+number-wrote a b c at m end p k n xs h u v =
+    wrote-more a b c at m end p (suc k) xs (decimal n) u (wrote-within b c m end _ (suc k) (decimal n) (decimal-length k n h) v)
 
 -- the same bytes by another name
 pub wrote-is : (a b : List ℕ) (at m p : ℕ) (xs ys zs : List ℕ) → ys ≡ zs → Wrote a at (xs ++ ys) p b m → Wrote a at (xs ++ zs) p b m
