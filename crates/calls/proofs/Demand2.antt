@@ -32,4 +32,5 @@ module _ (ord : List ℕ) (o : Order ord) where
         sync = refl;
         repaired = refl;
         last = ap (λ (y : Record). y .last) (receive-left ord d l ∙ ap (λ (y : Received). y .next) there);
+        g2 = ap (λ (y : Record). y .g2) (receive-left ord d l ∙ ap (λ (y : Received). y .next) there);
       }

@@ -22,7 +22,7 @@ start-first zero h = refl
 start-first (suc zero) h = refl
 start-first (suc (suc n)) h = absurd (omega arith)
 
--- the same, counted from the fifth on
+-- before the fifth stage, and any past it, stand all 320 rows
 start-beyond : (n : ℕ) → stageStart (suc (suc (suc (suc (suc n))))) ≡ 320
 unfolding stageStart
 start-beyond zero = refl

@@ -1,4 +1,4 @@
--- Erased frames one after the other: every one is a repeat, so whether it is mute hangs on the kinds before the first alone.
+-- Erased frames one after the other: every one is a repeat, so whether it is mute depends on the kinds before the first alone.
 -- Assumes nothing.
 use mathlib.Core.Path.{_≡_, refl, ap, ap₂, _∙_}
 use mathlib.Core.Bool.{Bool}

@@ -5,8 +5,9 @@ use Rattle.pitch.specs.Pitch.{index, classOf, classAnswer}
 use Rattle.hamming.specs.Word.{fixOf, decode}
 use Rattle.order.specs.Order.{placeOf, orderBy, defaultOrder, frameOf, bitAt, through}
 use Rattle.gain.specs.Levels.{firstLevel, firstLevelAnswer}
-use Rattle.quantiser.specs.Choice.{nearest, chosenG1}
+use Rattle.quantiser.specs.Choice.{nearest, chosenG1, chooseAnswer}
 use Rattle.frame.specs.Layout.{words, others, unvoicedWords, logical}
+use Rattle.frame.specs.Packing.{packAnswer, packWrites}
 use Rattle.reading.specs.Reads.{read}
 use Rattle.records.specs.Records.{fresh}
 use Rattle.results.specs.Steps.{accepted, repeated}
@@ -16,15 +17,15 @@ use Rattle.examples.specs.Examples.{Examples}
 use Rattle.examples.proofs.Muted.{mutes}
 
 pub examples : Examples
-unfolding index classOf classAnswer fixOf decode firstLevel firstLevelAnswer nearest chosenG1 placeOf orderBy defaultOrder frameOf bitAt through
-    words others unvoicedWords logical read fresh accepted repeated receive raised
+unfolding index classOf classAnswer fixOf decode firstLevel firstLevelAnswer nearest chosenG1 chooseAnswer placeOf orderBy defaultOrder frameOf bitAt through
+    words others unvoicedWords logical packAnswer packWrites read fresh accepted repeated receive raised
 examples = record {
   example-1 = record { zero-ones = refl; one-one = refl; two-ones = refl; lowest = refl; middle = refl; highest = refl };
   example-2 = record { parity = refl; one-flip = refl; two-flips = refl; three-flips = refl };
   example-3 = record { parity = refl };
   example-4 = record { code-0 = refl; code-1 = refl; code-7 = refl; steady = refl; transition = refl };
   example-5 = record { on-threshold = refl; above = refl };
-  example-6 = record { ninety-packed = refl };
+  example-6 = record { ninety-answer = refl; ninety-packed = refl };
   example-7 = record { repaired = refl; repeats = refl };
   example-8 = record { second-raised = refl };
   example-9 = mutes;

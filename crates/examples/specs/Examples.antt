@@ -5,7 +5,7 @@ use mathlib.Core.Bool.{Bool, true, false}
 use mathlib.Core.List.{List, [], _∷_, map}
 use lib.Dec.{eqb}
 use lib.IntN.{ℤ, pos}
-use lib.ListN.{length}
+use lib.ListN.{length, replicate}
 use Rattle.bits.specs.Bits.{bits}
 use Rattle.pitch.specs.Pitch.{classAnswer}
 use Rattle.pitch.specs.declared.PitchClass.the-variants as pitch
@@ -14,10 +14,11 @@ use Rattle.hamming.specs.Word.{parityOf, encode, flipAt, decode}
 use Rattle.hamming.specs.declared.Decoded.the-variants.{Read, Erased}
 use Rattle.order.specs.Order.{times, defaultOrder, logicalBit, frameRefusal, through}
 use Rattle.gain.specs.Levels.{firstLevelAnswer}
-use Rattle.quantiser.specs.Choice.{chosenG2, chosenG1}
+use Rattle.quantiser.specs.Choice.{chosenG2, chooseAnswer}
+use Rattle.quantiser.specs.declared.CodesAnswer.the-variants.{Codes}
 use Rattle.gain.specs.declared.LevelAnswer.the-variants.{Level}
-use Rattle.frame.specs.Layout.{frame}
-use Rattle.frame.specs.Packing.{freshSync}
+use Rattle.frame.specs.Packing.{freshSync, packAnswer, packWrites}
+use Rattle.frame.specs.declared.PackAnswer.the-variants.{Packed}
 use Rattle.reading.specs.Reads.{read}
 use Rattle.sets.specs.declared.ParameterSet.{ParameterSet}
 use Rattle.sets.specs.declared.ParameterSet.the-variants.{Unvoiced}
@@ -51,13 +52,13 @@ pub record WordA : Type 0 where
 pub record WordB : Type 0 where
   pub parity : parityOf 6 (bits 3 0b010) ≡ bits 3 0b101
 
--- 4: first levels and first codes after G2 = 10, where G2 = 11
+-- 4: first levels and first codes after G2 = 10, where G2 = 11, whose level is 6282
 pub record FirstLevels : Type 0 where
   pub code-0 : firstLevelAnswer 11 0 10 ≡ Level 6081
   pub code-1 : firstLevelAnswer 11 1 10 ≡ Level 4764
   pub code-7 : firstLevelAnswer 11 7 10 ≡ Level 7398
-  pub steady : chosenG1 (pos 6639) 11 10 ≡ 0
-  pub transition : chosenG1 (pos 6640) 11 10 ≡ 5
+  pub steady : chooseAnswer (pos 6639) (pos 6282) 10 ≡ Codes 11 0
+  pub transition : chooseAnswer (pos 6640) (pos 6282) 10 ≡ Codes 11 5
 
 -- 5: second codes on both sides of a threshold
 pub record SecondCodes : Type 0 where
@@ -72,7 +73,8 @@ abbrev pub ninetyBytes : List ℕ
 ninetyBytes = 0x80 ∷ 0x56 ∷ 0x0D ∷ 0x40 ∷ 0x15 ∷ 0x00 ∷ 0x10 ∷ []
 
 pub record Frames : Type 0 where
-  pub ninety-packed : frame defaultOrder ninety freshSync ≡ ninetyBytes
+  pub ninety-answer : packAnswer ninety freshSync 7 ≡ Packed true
+  pub ninety-packed : packWrites ninety freshSync (replicate 7 0) ≡ ninetyBytes
 
 -- 7: that frame with two places changed, in a fresh receiver: as sent and both flips counted, or a repeat of the fresh record's set
 abbrev pub changed : List ℕ → List ℕ

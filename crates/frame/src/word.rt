@@ -49,7 +49,7 @@ fn other_bits(x: Indices, code: u8, sync: bool) -> u64
     (code as u64 * 0x4_0000 + spectrum) * 2 + bit_number(sync)
 }
 
-// What a voiced set has in the parity places of its words.
+// The four words of a voiced set: bandpass bits, Fourier index and flag in the parity places.
 fn voiced_words(x: Indices, v: Voicing) -> u64
     requires { ⌜ (x .l1 < 128) × (x .g2 < 32) × (x .g1 < 8) ⌝ }
     requires { ⌜ (v .bandpass < 16) × (v .aperiodic < 2) ⌝ }
@@ -59,7 +59,7 @@ fn voiced_words(x: Indices, v: Voicing) -> u64
     four_words(x, v.bandpass, f / 32, f / 4 % 8, f % 4 * 2 + v.aperiodic)
 }
 
-// What an unvoiced set has there: the parity of their data.
+// The four words of an unvoiced set: the parity of the data in the parity places.
 fn unvoiced_words(x: Indices) -> u64
     requires { ⌜ (x .l1 < 128) × (x .g2 < 32) × (x .g1 < 8) ⌝ }
     ensures { λ r. ⌜ (r ≡ value (unvoicedWords x)) × (r < 2 ^ 28) ⌝ }

@@ -1,4 +1,4 @@
--- Gain levels (5.3.3): the level of a second code G2, and the first level of a frame, after a frame whose second code is q.
+-- Document 01, "Gain levels" (5.3.3): the level of a second code G2, and the first level of a frame, after a frame whose second code is q.
 use Prim.Native.Nat.{ℕ, zero, suc, _+_, _-_, _*_, _/_, min}
 use mathlib.Core.Bool.{_&&_, cond}
 use lib.Dec.{leb}

@@ -1,2 +1,1 @@
--- Gain levels (document 01), from codes to levels.
 pub mod Levels

@@ -1,3 +1,4 @@
 pub mod Taken
 pub mod Pending
 pub mod Shown
+pub mod Extent

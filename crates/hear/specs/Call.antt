@@ -1,4 +1,4 @@
--- Document 01, "Program hear": what is printed for the bytes of a call, of which at most 65,534 are read.
+-- Document 01, "Program hear": what is printed for the bytes of a call.
 use Prim.Native.Nat.{ℕ, zero, suc, _+_, _*_, _/_, _%_}
 use mathlib.Core.Path.{_≡_}
 use mathlib.Core.List.{List, _++_}
@@ -56,6 +56,10 @@ repeatsBefore bytes (suc k) = repeatsBefore bytes k + repeatOf (answerAt bytes k
 -- all that is printed
 unfoldable pub text : List ℕ → List ℕ
 text bytes = textBefore bytes (framesIn bytes) ++ lastLine (framesIn bytes) (repeatsBefore bytes (framesIn bytes)) (leftIn bytes)
+
+-- what is printed for all of standard input: bytes past the 65,534th, those of 9,362 frames, are neither read nor counted
+abbrev pub printed : List ℕ → List ℕ
+printed input = text (take 65534 input)
 
 -- a helper of the code: of the text so far, `sent` bytes have gone out and the others wait at the front of a buffer, up to `end`
 abbrev pub Pending : List ℕ → ℕ → ℕ → List ℕ → Type 0

@@ -49,7 +49,7 @@ bytes-back bytes e h =
     ∙ ap (cut (λ i. getD bytes i 0) 0) (sym e)
     ∙ cut-getD 0 bytes
 
--- the padding of seven bytes is clear exactly where the last byte is a multiple of 4
+-- the padding of seven bytes stands for the remainder of the last one by 4
 pub padding-is : (bytes : List ℕ) → value (padding bytes) ≡ getD bytes 6 0 % 4
 unfolding bitAt
 padding-is bytes = value-bits-mod 2 (getD bytes 6 0)

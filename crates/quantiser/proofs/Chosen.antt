@@ -44,10 +44,10 @@ module _ (first : ℤ) (g2 q : ℕ) where
   unfolding chosenG1
   first-zero e = code-zero (steady first g2 q) _ e
 
-  -- a steady frame decodes to the mean of both second levels
-  pub first-steady : steady first g2 q ≡ true → firstLevel g2 (chosenG1 first g2 q) q ≡ mean g2 q
+  -- and in every one; it decodes to the mean of both second levels
+  pub first-steady : steady first g2 q ≡ true → (chosenG1 first g2 q ≡ 0) × (firstLevel g2 (chosenG1 first g2 q) q ≡ mean g2 q)
   unfolding chosenG1 firstLevel
-  first-steady e = simp e
+  first-steady e = (simp e, simp e)
 
   -- any other has one of the codes 1 to 7
   first-other : steady first g2 q ≡ false → chosenG1 first g2 q ≡ suc (nearest (sevenLevels g2 q) first 6)

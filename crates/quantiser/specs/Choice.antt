@@ -1,4 +1,4 @@
--- Choosing codes (5.3.3, 5.3.7) from a first and a second level, and q, the second code before.
+-- Document 01, "Gain levels" (5.3.3, 5.3.7): choosing codes from a first and a second level, and q, the second code before.
 use Prim.Native.Nat.{ℕ, zero, suc, _+_}
 use mathlib.Core.Bool.{Bool, _&&_, cond}
 use lib.Dec.{leb, ltb}

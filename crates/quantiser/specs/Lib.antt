@@ -1,2 +1,1 @@
--- Gain codes (document 01), from levels to codes.
 pub mod Choice

@@ -1,4 +1,4 @@
--- What is read hangs on logical bits 0 to 52 alone: the sync bit plays no part.
+-- What is read depends on logical bits 0 to 52 alone: the sync bit is not among them.
 -- Assumes nothing.
 use mathlib.Core.Path.{_≡_, refl, ap, _∙_}
 use mathlib.Core.Bool.{Bool}

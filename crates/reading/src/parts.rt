@@ -36,9 +36,9 @@ pub(crate) fn voicing(word: u64, pitch: u8) -> Voicing
 {
     let fourier = part(word, 11, 3) * 32 + (part(word, 18, 3) * 4 + part(word, 25, 2));
     Voicing {
-        pitch: pitch,
+        pitch,
         bandpass: part(word, 4, 4),
-        fourier: fourier,
+        fourier,
         aperiodic: part(word, 27, 1),
     }
 }

@@ -1,5 +1,5 @@
--- Document 01, "Refusals by place": a text put into a lent buffer from `at` on. An output shorter than the text is refused with 1; everything
--- past the text, and before it, stays as it was.
+-- A text put into a lent buffer from `at` on. A buffer that ends before the text does is refused with 1, document 01's number for an output
+-- that is too short; everything past the text, and before it, stays as it was.
 use Prim.Native.Nat.{ℕ, _+_, _≤_}
 use mathlib.Core.Path.{_≡_}
 use mathlib.Core.Bool.{Bool, true, false}

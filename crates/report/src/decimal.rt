@@ -40,7 +40,7 @@ fn write_hundreds(n: u64, line: &mut Line, at: usize) -> usize
     write_pair((n / 10 % 10) as u8, (n % 10) as u8, line, end)
 }
 
-// A number. Those of a frame's line have at most six digits, and are written with no call of itself.
+// A number. Those of a frame's line have at most six digits, for which the function does not call itself.
 pub(crate) fn write_decimal(n: u64, line: &mut Line, at: usize) -> usize
     requires { ⌜ Ready (now line) at (length (decimal n)) ⌝ }
     ensures { λ r. ⌜ Wrote (now (line .entry)) at (decimal n) (length (decimal n)) (now (line .exit)) r ⌝ }

@@ -77,7 +77,8 @@ fn repeat(rec: Record, sync: bool) -> Received
     }
 }
 
-// A frame by what its bits are read as: an erased one is a repeat.
+// A frame by what its bits are read as: an erased one is a repeat. Any record is taken as it stands; the calls that
+// take a frame test its ranges first.
 pub fn step(rec: Record, sync: bool, reading: Reading) -> Received
     ensures { λ r. ⌜ r ≡ step rec sync reading ⌝ }
 {

@@ -23,6 +23,7 @@ pub struct Voicing {
     pub aperiodic: u8,
 }
 
+// A parameter set, unvoiced or voiced.
 pub enum ParameterSet {
     Unvoiced(Indices),
     Voiced(Indices, Voicing),

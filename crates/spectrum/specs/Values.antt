@@ -10,6 +10,7 @@ use Rattle.records.specs.Records.{fresh}
 use Rattle.receiver.specs.Receiving.{receive, firstRefusal}
 use Rattle.results.specs.declared.ReceiveAnswer.{ReceiveAnswer}
 use Rattle.results.specs.declared.ReceiveAnswer.the-variants.{Result, Refused}
+use Rattle.codebook.specs.Rows.{lsfSize, magnitudeSize}
 use Rattle.spectra.specs.Values.{lsfRefusal, lsfWrites, magnitudesRefusal, magnitudesWrites}
 use Rattle.spectra.specs.declared.ValuesAnswer.{ValuesAnswer}
 use Rattle.spectra.specs.declared.ValuesAnswer.the-variants.{Written}
@@ -54,7 +55,8 @@ unless (suc n) found = refused (suc n)
 -- the values of a set by the texts of both codebooks
 abbrev pub ofTexts : ParameterSet → List ℕ → List ℕ → Spectrum
 ofTexts set lsf magnitudes =
-    unless (firstRefusal (textRefusal 3200 lsf 3200) (textRefusal 2560 magnitudes 2560)) (ofCodebooks set (numbers 3200 lsf) (numbers 2560 magnitudes))
+    unless (firstRefusal (textRefusal lsfSize lsf lsfSize) (textRefusal magnitudeSize magnitudes magnitudeSize))
+    (ofCodebooks set (numbers lsfSize lsf) (numbers magnitudeSize magnitudes))
 
 -- the values by what a receiver answers
 abbrev pub ofAnswer : ReceiveAnswer → List ℕ → List ℕ → Spectrum
