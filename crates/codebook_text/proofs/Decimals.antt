@@ -8,10 +8,10 @@ use native.Mathlib.Omega.{arith}
 use lib.Dec.{leb}
 use lib.ListN.{length, length-map}
 use borrow.Author.Tests.{leb-true, le-leb}
-use Rattle.codebook_text.specs.Text.{isDigit, allDigits, valueAfter, magnitudeOf}
+use Rattle.codebook_text.specs.Text.{isDigit, allDigits, valueAfter, digitsValue}
 use Rattle.bits.specs.Lists.{Every}
 use Rattle.codebook_text.specs.Grammar.{decimal, digitByte}
-use Rattle.codebook_text.proofs.Magnitudes.{both}
+use Rattle.codebook_text.proofs.Digits.{both}
 
 -- the digit of a byte
 abbrev pub digitOf : ℕ → ℕ
@@ -69,8 +69,8 @@ value-spelt v (d ∷ ds) =
     rw s (omega arith)
 
 -- the reader's value of written digits is their own
-pub magnitude-spelt : (ds : List ℕ) → magnitudeOf (map digitByte ds) ≡ decimal ds
-magnitude-spelt ds = omega (arith, value-spelt 0 ds)
+pub digits-value-spelt : (ds : List ℕ) → digitsValue (map digitByte ds) ≡ decimal ds
+digits-value-spelt ds = omega (arith, value-spelt 0 ds)
 
 -- a list's digits are as many as its bytes
 pub spelt-length : (ds : List ℕ) → length (map digitByte ds) ≡ length ds

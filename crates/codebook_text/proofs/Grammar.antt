@@ -11,7 +11,7 @@ use borrow.Author.Tests.{ne-eqb, eqb-true}
 use Rattle.codebook_text.specs.Text.{lineOf, isEnded, afterLine, isNumber, isEmpty, isLines, numbers, Reads}
 use Rattle.bits.specs.Lists.{Every}
 use Rattle.codebook_text.specs.Grammar.{Line, Good, written, speltAll, valueOf, Written}
-use Rattle.codebook_text.proofs.Magnitudes.{both}
+use Rattle.codebook_text.proofs.Digits.{both}
 use Rattle.codebook_text.proofs.Spelling.{written-line, written-good, written-value}
 use Rattle.codebook_text.proofs.Readback.{lineRead, read-good, read-written, read-value}
 

@@ -1,6 +1,6 @@
 -- The laws of the text form: lines and digits for the readers, then the grammar.
 pub mod Lines
-pub mod Magnitudes
+pub mod Digits
 pub mod Signs
 pub mod Turns
 pub mod Answers

@@ -6,10 +6,10 @@ use Prim.Native.Nat.{ℕ, _≤_}
 use lib.Dec.{eqb}
 use lib.ListN.{length, drop, length-map}
 use borrow.Author.Tests.{eq-eqb, eqb-true, not-true}
-use Rattle.codebook_text.specs.Text.{isNegative, unsigned, allDigits, isMagnitude, magnitudeOf, isNumber, numberOf}
+use Rattle.codebook_text.specs.Text.{isNegative, unsigned, allDigits, isDigits, digitsValue, isNumber, numberOf}
 use Rattle.codebook_text.specs.Grammar.{Line, Good, decimal, digitByte, written, valueOf}
-use Rattle.codebook_text.proofs.Magnitudes.{both, magnitude-parts}
-use Rattle.codebook_text.proofs.Decimals.{digitOf, digits-back, digits-small, magnitude-spelt}
+use Rattle.codebook_text.proofs.Digits.{both, digits-parts}
+use Rattle.codebook_text.proofs.Decimals.{digitOf, digits-back, digits-small, digits-value-spelt}
 use Rattle.codebook_text.proofs.Spelling.{written-value}
 
 -- the line that bytes are read as
@@ -28,21 +28,21 @@ sign-back (c ∷ cs) = go (eqb c 45) refl
 
 module _ (w : List ℕ) (h : isNumber w ≡ true) where
   -- the two tests of a number
-  tests : (isMagnitude (unsigned w) ≡ true) × (not (isNegative w && eqb (magnitudeOf (unsigned w)) 0) ≡ true)
+  tests : (isDigits (unsigned w) ≡ true) × (not (isNegative w && eqb (digitsValue (unsigned w)) 0) ≡ true)
   unfolding isNumber
-  tests = both (isMagnitude (unsigned w)) (not (isNegative w && eqb (magnitudeOf (unsigned w)) 0)) h
+  tests = both (isDigits (unsigned w)) (not (isNegative w && eqb (digitsValue (unsigned w)) 0)) h
 
   -- the length and the bytes of its digits
   shape : (1 ≤ length (unsigned w)) × (length (unsigned w) ≤ 10) × (allDigits (unsigned w) ≡ true)
-  shape = magnitude-parts (unsigned w) (tests .0)
+  shape = digits-parts (unsigned w) (tests .0)
 
   -- the digits read are written by these bytes
   back : map digitByte (map digitOf (unsigned w)) ≡ unsigned w
   back = digits-back (unsigned w) (shape .2)
 
   -- and have the reader's value
-  value : decimal (map digitOf (unsigned w)) ≡ magnitudeOf (unsigned w)
-  value = sym (magnitude-spelt (map digitOf (unsigned w))) ∙ ap magnitudeOf back
+  value : decimal (map digitOf (unsigned w)) ≡ digitsValue (unsigned w)
+  value = sym (digits-value-spelt (map digitOf (unsigned w))) ∙ ap digitsValue back
 
   -- that line is good
   pub read-good : Good (lineRead w)
@@ -50,7 +50,7 @@ module _ (w : List ℕ) (h : isNumber w ≡ true) where
     some = rw length-map (shape .0);
     most = rw length-map (shape .1);
     decimals = digits-small (unsigned w) (shape .2);
-    nonzero = λ m z. nonzero (isNegative w) (magnitudeOf (unsigned w)) (tests .1) m (sym value ∙ z);
+    nonzero = λ m z. nonzero (isNegative w) (digitsValue (unsigned w)) (tests .1) m (sym value ∙ z);
   }
     where
       nonzero : (b : Bool) (n : ℕ) → not (b && eqb n 0) ≡ true → b ≡ true → n ≡ 0 → ⊥

@@ -8,10 +8,10 @@ use lib.Dec.{eqb}
 use lib.IntN.{pos}
 use lib.ListN.{length}
 use borrow.Author.Tests.{le-leb, ne-eqb}
-use Rattle.codebook_text.specs.Text.{isNegative, unsigned, isMagnitude, isNumber, numberOf, signed}
+use Rattle.codebook_text.specs.Text.{isNegative, unsigned, isDigits, isNumber, numberOf, signed}
 use Rattle.bits.specs.Lists.{Every}
 use Rattle.codebook_text.specs.Grammar.{Line, Good, decimal, digitByte, written, valueOf}
-use Rattle.codebook_text.proofs.Decimals.{digits-spelt, digits-line, magnitude-spelt, spelt-length}
+use Rattle.codebook_text.proofs.Decimals.{digits-spelt, digits-line, digits-value-spelt, spelt-length}
 
 -- no byte of a line ends it
 pub written-line : (l : Line) → Every (λ c. 11 ≤ c) (written l)
@@ -42,10 +42,10 @@ module _ (l : Line) (g : Good l) where
   unfolding written
   line-parts = parts (l .minus) (l .digits) (g .some)
 
-  -- one to ten digits are a magnitude
-  magnitude-written : isMagnitude (map digitByte (l .digits)) ≡ true
-  unfolding isMagnitude
-  magnitude-written =
+  -- one to ten digits are so to the reader
+  digits-written : isDigits (map digitByte (l .digits)) ≡ true
+  unfolding isDigits
+  digits-written =
       rw (spelt-length (l .digits), le-leb 1 (length (l .digits)) (g .some), le-leb (length (l .digits)) 10 (g .most))
       (digits-spelt (l .digits) (g .decimals))
 
@@ -57,12 +57,12 @@ module _ (l : Line) (g : Good l) where
   -- a good line is a number to the reader
   pub written-good : isNumber (written l) ≡ true
   unfolding isNumber
-  written-good = rw (line-parts .rest, line-parts .sign, magnitude-written, magnitude-spelt) (sign-good (l .minus) refl)
+  written-good = rw (line-parts .rest, line-parts .sign, digits-written, digits-value-spelt) (sign-good (l .minus) refl)
 
   -- and its own value
   pub written-value : numberOf (written l) ≡ valueOf l
   unfolding numberOf valueOf
-  written-value = rw (line-parts .rest, line-parts .sign, magnitude-spelt) (same (l .minus))
+  written-value = rw (line-parts .rest, line-parts .sign, digits-value-spelt) (same (l .minus))
     where
       same : (b : Bool) → signed b (decimal (l .digits)) ≡ cond b (signed true (decimal (l .digits))) (pos (decimal (l .digits)))
       same true = refl

@@ -13,7 +13,7 @@ use lib.ListN.{length, take, drop, set}
 use lib.Seq.{take-suc-set, append-snoc}
 use borrow.Author.Tests.{lt-ltb, le-ltb, ltb-true}
 use Rattle.codebook_text.specs.Text.{lineOf, isNumber, numberOf, isEmpty, isLines, numbers}
-use Rattle.codebook_text.proofs.Magnitudes.{both}
+use Rattle.codebook_text.proofs.Digits.{both}
 use Rattle.codebook_text.proofs.Lines.{part-ended, part-rest}
 
 -- nothing is left exactly at the end of the text

@@ -1,4 +1,5 @@
--- The lines of a codebook's text as they are written, without reference to a reader: a sign, one to ten digits and a line end.
+-- Document 01, "LSF and magnitude values": the lines of a codebook's text as they are written, without reference to a reader. A line is a
+-- sign, one to ten digits and its end.
 use Prim.Native.Nat.{ℕ, _+_, _*_, _^_, _≤_}
 use mathlib.Core.Path.{_≡_}
 use mathlib.Core.Bool.{Bool, true, cond}

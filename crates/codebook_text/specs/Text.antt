@@ -44,8 +44,8 @@ allDigits [] = true
 allDigits (c ∷ cs) = isDigit c && allDigits cs
 
 -- one to ten digits
-unfoldable pub isMagnitude : List ℕ → Bool
-isMagnitude cs = leb 1 (length cs) && leb (length cs) 10 && allDigits cs
+unfoldable pub isDigits : List ℕ → Bool
+isDigits cs = leb 1 (length cs) && leb (length cs) 10 && allDigits cs
 
 -- the value of digits that follow those of value v, the most significant first
 unfoldable pub valueAfter : ℕ → List ℕ → ℕ
@@ -53,12 +53,12 @@ valueAfter v [] = v
 valueAfter v (c ∷ cs) = valueAfter (10 * v + (c - 48)) cs
 
 -- the value of digits
-abbrev pub magnitudeOf : List ℕ → ℕ
-magnitudeOf cs = valueAfter 0 cs
+abbrev pub digitsValue : List ℕ → ℕ
+digitsValue cs = valueAfter 0 cs
 
 -- a good line: a minus or none, then one to ten digits, and no minus before a value of 0
 unfoldable pub isNumber : List ℕ → Bool
-isNumber line = isMagnitude (unsigned line) && not (isNegative line && eqb (magnitudeOf (unsigned line)) 0)
+isNumber line = isDigits (unsigned line) && not (isNegative line && eqb (digitsValue (unsigned line)) 0)
 
 -- a size with its sign
 abbrev pub signed : Bool → ℕ → ℤ
@@ -67,7 +67,7 @@ signed false n = pos n
 
 -- the number that a good line writes
 unfoldable pub numberOf : List ℕ → ℤ
-numberOf line = signed (isNegative line) (magnitudeOf (unsigned line))
+numberOf line = signed (isNegative line) (digitsValue (unsigned line))
 
 -- nothing left
 abbrev pub isEmpty : List ℕ → Bool

@@ -2,15 +2,15 @@
 ghost use mathlib.Core.Path.{_≡_};
 ghost use mathlib.Core.Bool.{true};
 ghost use Prim.Native.Nat.{_<_};
-ghost use Rattle.codebook_text.specs.Text.{isNegative, unsigned, isDigit, allDigits, isMagnitude, magnitudeOf, isNumber, numberOf};
+ghost use Rattle.codebook_text.specs.Text.{isNegative, unsigned, isDigit, allDigits, isDigits, digitsValue, isNumber, numberOf};
 
 // Whether a line, without its end, is good.
 pub(crate) fn is_number(line: &[u8]) -> bool
     ensures { λ r. ⌜ r ≡ isNumber (now (line .entry)) ⌝ }
 {
     let digits = unsigned_part(line);
-    if is_magnitude(digits) {
-        return !(is_negative(line) & (magnitude(digits) == 0));
+    if is_digits(digits) {
+        return !(is_negative(line) & (digits_value(digits) == 0));
     }
     false
 }
@@ -20,7 +20,7 @@ pub(crate) fn number(line: &[u8]) -> i64
     requires { ⌜ isNumber (now line) ≡ true ⌝ }
     ensures { λ r. ⌜ r ≡ numberOf (now (line .entry)) ⌝ }
 {
-    let size = magnitude(unsigned_part(line)) as i64;
+    let size = digits_value(unsigned_part(line)) as i64;
     if is_negative(line) { -size } else { size }
 }
 
@@ -42,8 +42,8 @@ fn unsigned_part(line: &[u8]) -> &[u8]
 }
 
 // One to ten digits and nothing else.
-fn is_magnitude(digits: &[u8]) -> bool
-    ensures { λ r. ⌜ r ≡ isMagnitude (now (digits .entry)) ⌝ }
+fn is_digits(digits: &[u8]) -> bool
+    ensures { λ r. ⌜ r ≡ isDigits (now (digits .entry)) ⌝ }
 {
     (1 <= digits.len()) & (digits.len() <= 10) & all_digits(digits)
 }
@@ -68,9 +68,9 @@ fn is_digit(c: u8) -> bool
 }
 
 // The value of one to ten digits, the most significant first.
-fn magnitude(digits: &[u8]) -> u64
-    requires { ⌜ isMagnitude (now digits) ≡ true ⌝ }
-    ensures { λ r. ⌜ (r ≡ magnitudeOf (now (digits .entry))) × (r < 10000000000) ⌝ }
+fn digits_value(digits: &[u8]) -> u64
+    requires { ⌜ isDigits (now digits) ≡ true ⌝ }
+    ensures { λ r. ⌜ (r ≡ digitsValue (now (digits .entry))) × (r < 10000000000) ⌝ }
 {
     let mut value: u64 = 0;
     for i in 0..digits.len() {

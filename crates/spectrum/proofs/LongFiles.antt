@@ -9,7 +9,7 @@ use lib.Dec.{eqb}
 use lib.ListN.{length, drop, length-drop}
 use Rattle.codebook_text.specs.Text.{lineOf, isEnded, afterLine, isNegative, unsigned, isNumber, isLines, textRefusal}
 use Rattle.codebook_text.proofs.Lines.{line-rest}
-use Rattle.codebook_text.proofs.Magnitudes.{both, magnitude-parts, number-magnitude}
+use Rattle.codebook_text.proofs.Digits.{both, digits-parts, number-digits}
 
 -- at most one byte stands before the digits
 unsigned-size : (line : List ℕ) → length line ≤ suc (length (unsigned line))
@@ -22,7 +22,7 @@ unsigned-size line = go (isNegative line)
 
 -- a good line
 number-size : (line : List ℕ) → isNumber line ≡ true → length line ≤ 11
-number-size line h = omega (arith, unsigned-size line, magnitude-parts (unsigned line) (number-magnitude line h) .1)
+number-size line h = omega (arith, unsigned-size line, digits-parts (unsigned line) (number-digits line h) .1)
 
 -- a good text
 lines-size : (n : ℕ) (text : List ℕ) → isLines n text ≡ true → length text ≤ 12 * n

@@ -6,7 +6,7 @@ use native.Mathlib.Omega.{arith}
 use lib.ListN.{length, drop, getD}
 use borrow.Author.Tests.{not-true, not-false}
 use Rattle.codebook_text.specs.Text.{allDigits, isDigit}
-use Rattle.codebook_text.proofs.Magnitudes.{digits-step, digits-out}
+use Rattle.codebook_text.proofs.Digits.{digits-step, digits-out}
 use borrow.Author.Needs.{needs}
 use Rattle.codebook_text.proofs.line.all_digits.Statement.{statement}
 use Rattle.codebook_text.proofs.line.all_digits.Tie as tie

@@ -7,7 +7,7 @@ use native.Mathlib.Omega.{arith}
 use lib.ListN.{length, take, drop, length-drop}
 use lib.Seq.{take-all}
 use Rattle.codebook_text.specs.Text.{isNegative, unsigned}
-use Rattle.codebook_text.proofs.Magnitudes.{negative-some}
+use Rattle.codebook_text.proofs.Digits.{negative-some}
 use borrow.Author.Needs.{needs}
 use Rattle.codebook_text.proofs.line.unsigned_part.Statement.{statement}
 use Rattle.codebook_text.proofs.line.unsigned_part.Tie as tie

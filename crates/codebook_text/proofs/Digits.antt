@@ -10,7 +10,7 @@ use lib.Dec.{leb, eqb}
 use lib.ListN.{length, getD, drop, drop-of-length-le}
 use lib.Seq.{drop-cons}
 use borrow.Author.Tests.{leb-true}
-use Rattle.codebook_text.specs.Text.{isNegative, unsigned, isDigit, allDigits, isMagnitude, valueAfter, magnitudeOf, isNumber}
+use Rattle.codebook_text.specs.Text.{isNegative, unsigned, isDigit, allDigits, isDigits, valueAfter, digitsValue, isNumber}
 
 -- both of two tests
 pub both : (a b : Bool) → a && b ≡ true → (a ≡ true) × (b ≡ true)
@@ -22,10 +22,10 @@ unfolding isNegative
 negative-some [] e = let z : _≡_ {A = ℕ} 0 1 = cc in absurd (omega arith)
 negative-some (c ∷ cs) e = omega arith
 
--- what the length and the bytes of a magnitude are
-pub magnitude-parts : (cs : List ℕ) → isMagnitude cs ≡ true → (1 ≤ length cs) × (length cs ≤ 10) × (allDigits cs ≡ true)
-unfolding isMagnitude
-magnitude-parts cs e =
+-- what the length and the bytes of one to ten digits are
+pub digits-parts : (cs : List ℕ) → isDigits cs ≡ true → (1 ≤ length cs) × (length cs ≤ 10) × (allDigits cs ≡ true)
+unfolding isDigits
+digits-parts cs e =
     let p = both (leb 1 (length cs) && leb (length cs) 10) (allDigits cs) e in
     let q = both (leb 1 (length cs)) (leb (length cs) 10) (p .0) in
     (leb-true 1 (length cs) (q .0), leb-true (length cs) 10 (q .1), p .1)
@@ -50,7 +50,7 @@ module _ (cs : List ℕ) (i : ℕ) (h : i < length cs) where
   unfolding valueAfter
   value-step v = rw (add-one, drop-cons cs i 0 h) refl
 
--- no byte left is no digit that is none
+-- where no byte is left, nothing but digits is left
 pub digits-out : (cs : List ℕ) (i : ℕ) → length cs ≤ i → allDigits (drop i cs) ≡ true
 unfolding allDigits
 digits-out cs i h = rw (drop-of-length-le cs h) refl
@@ -72,18 +72,18 @@ value-fits v i h k =
     let p : 10 ^ i ≤ 10 ^ 10 = pow-le-pow-right (omega arith) k in
     omega arith
 
--- a good line has a magnitude
-pub number-magnitude : (line : List ℕ) → isNumber line ≡ true → isMagnitude (unsigned line) ≡ true
+-- a good line has one to ten digits after its sign
+pub number-digits : (line : List ℕ) → isNumber line ≡ true → isDigits (unsigned line) ≡ true
 unfolding isNumber
-number-magnitude line e = both (isMagnitude (unsigned line)) (not (isNegative line && eqb (magnitudeOf (unsigned line)) 0)) e .0
+number-digits line e = both (isDigits (unsigned line)) (not (isNegative line && eqb (digitsValue (unsigned line)) 0)) e .0
 
--- the test of a line with a magnitude is that of its sign
-pub number-test : (line : List ℕ) (minus : Bool) (m : ℕ) → isMagnitude (unsigned line) ≡ true → minus ≡ isNegative line
-    → m ≡ magnitudeOf (unsigned line) → not (minus && eqb m 0) ≡ isNumber line
+-- the test of a line with such digits is that of its sign
+pub number-test : (line : List ℕ) (minus : Bool) (m : ℕ) → isDigits (unsigned line) ≡ true → minus ≡ isNegative line
+    → m ≡ digitsValue (unsigned line) → not (minus && eqb m 0) ≡ isNumber line
 unfolding isNumber
 number-test line minus m e f g = rw (e, f, g) refl
 
--- a line without a magnitude is bad
-pub number-none : (line : List ℕ) → isMagnitude (unsigned line) ≡ false → isNumber line ≡ false
+-- a line without such digits is bad
+pub number-none : (line : List ℕ) → isDigits (unsigned line) ≡ false → isNumber line ≡ false
 unfolding isNumber
 number-none line e = rw e refl
