@@ -10,7 +10,7 @@ use lib.ListN.{length, length-map}
 use borrow.Author.Tests.{leb-true, le-leb}
 use Rattle.codebook_text.specs.Text.{isDigit, allDigits, valueAfter, digitsValue}
 use Rattle.bits.specs.Lists.{Every}
-use Rattle.codebook_text.specs.Grammar.{decimal, digitByte}
+use Rattle.codebook_text.specs.Grammar.{decimalValue, digitByte}
 use Rattle.codebook_text.proofs.Digits.{both}
 
 -- the digit of a byte
@@ -58,8 +58,8 @@ weighed v d p =
     rw s (omega (arith, add-mul (10 * v) d p, mul-assoc 10 v p, mul-assoc v p 10))
 
 -- the value of bytes after those of value v
-value-spelt : (v : ℕ) (ds : List ℕ) → valueAfter v (map digitByte ds) ≡ v * 10 ^ length ds + decimal ds
-unfolding valueAfter decimal
+value-spelt : (v : ℕ) (ds : List ℕ) → valueAfter v (map digitByte ds) ≡ v * 10 ^ length ds + decimalValue ds
+unfolding valueAfter decimalValue
 value-spelt v [] = rw (pow-zero, mul-one) (omega arith)
 value-spelt v (d ∷ ds) =
     let p = 10 ^ length ds in
@@ -69,7 +69,7 @@ value-spelt v (d ∷ ds) =
     rw s (omega arith)
 
 -- the reader's value of written digits is their own
-pub digits-value-spelt : (ds : List ℕ) → digitsValue (map digitByte ds) ≡ decimal ds
+pub digits-value-spelt : (ds : List ℕ) → digitsValue (map digitByte ds) ≡ decimalValue ds
 digits-value-spelt ds = omega (arith, value-spelt 0 ds)
 
 -- a list's digits are as many as its bytes

@@ -7,7 +7,7 @@ use lib.Dec.{eqb}
 use lib.ListN.{length, drop, length-map}
 use borrow.Author.Tests.{eq-eqb, eqb-true, not-true}
 use Rattle.codebook_text.specs.Text.{isNegative, unsigned, allDigits, isDigits, digitsValue, isNumber, numberOf}
-use Rattle.codebook_text.specs.Grammar.{Line, Good, decimal, digitByte, written, valueOf}
+use Rattle.codebook_text.specs.Grammar.{Line, Good, decimalValue, digitByte, written, valueOf}
 use Rattle.codebook_text.proofs.Digits.{both, digits-parts}
 use Rattle.codebook_text.proofs.Decimals.{digitOf, digits-back, digits-small, digits-value-spelt}
 use Rattle.codebook_text.proofs.Spelling.{written-value}
@@ -41,7 +41,7 @@ module _ (w : List ℕ) (h : isNumber w ≡ true) where
   back = digits-back (unsigned w) (shape .2)
 
   -- and have the reader's value
-  value : decimal (map digitOf (unsigned w)) ≡ digitsValue (unsigned w)
+  value : decimalValue (map digitOf (unsigned w)) ≡ digitsValue (unsigned w)
   value = sym (digits-value-spelt (map digitOf (unsigned w))) ∙ ap digitsValue back
 
   -- that line is good

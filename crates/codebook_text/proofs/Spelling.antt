@@ -8,9 +8,9 @@ use lib.Dec.{eqb}
 use lib.IntN.{pos}
 use lib.ListN.{length}
 use borrow.Author.Tests.{le-leb, ne-eqb}
-use Rattle.codebook_text.specs.Text.{isNegative, unsigned, isDigits, isNumber, numberOf, signed}
+use Rattle.codebook_text.specs.Text.{isNegative, unsigned, isDigits, isNumber, numberOf, withSign}
 use Rattle.bits.specs.Lists.{Every}
-use Rattle.codebook_text.specs.Grammar.{Line, Good, decimal, digitByte, written, valueOf}
+use Rattle.codebook_text.specs.Grammar.{Line, Good, decimalValue, digitByte, written, valueOf}
 use Rattle.codebook_text.proofs.Decimals.{digits-spelt, digits-line, digits-value-spelt, spelt-length}
 
 -- no byte of a line ends it
@@ -50,8 +50,8 @@ module _ (l : Line) (g : Good l) where
       (digits-spelt (l .digits) (g .decimals))
 
   -- no minus stands before a value of 0
-  sign-good : (b : Bool) → l .minus ≡ b → not (b && eqb (decimal (l .digits)) 0) ≡ true
-  sign-good true e = rw (ne-eqb (decimal (l .digits)) 0 (g .nonzero e)) refl
+  sign-good : (b : Bool) → l .minus ≡ b → not (b && eqb (decimalValue (l .digits)) 0) ≡ true
+  sign-good true e = rw (ne-eqb (decimalValue (l .digits)) 0 (g .nonzero e)) refl
   sign-good false e = refl
 
   -- a good line is a number to the reader
@@ -64,6 +64,6 @@ module _ (l : Line) (g : Good l) where
   unfolding numberOf valueOf
   written-value = rw (line-parts .rest, line-parts .sign, digits-value-spelt) (same (l .minus))
     where
-      same : (b : Bool) → signed b (decimal (l .digits)) ≡ cond b (signed true (decimal (l .digits))) (pos (decimal (l .digits)))
+      same : (b : Bool) → withSign b (decimalValue (l .digits)) ≡ cond b (withSign true (decimalValue (l .digits))) (pos (decimalValue (l .digits)))
       same true = refl
       same false = refl

@@ -14,16 +14,16 @@ pub record Line : Type 0 where
   pub digits : List ℕ
 
 -- the value of digits, each weighed by the power of ten of its place
-unfoldable pub decimal : List ℕ → ℕ
-decimal [] = 0
-decimal (d ∷ ds) = d * 10 ^ length ds + decimal ds
+unfoldable pub decimalValue : List ℕ → ℕ
+decimalValue [] = 0
+decimalValue (d ∷ ds) = d * 10 ^ length ds + decimalValue ds
 
 -- a good line
 pub record Good (l : Line) : Type 0 where
   pub some : 1 ≤ length (l .digits)
   pub most : length (l .digits) ≤ 10
   pub decimals : Every (λ d. d ≤ 9) (l .digits)
-  pub nonzero : l .minus ≡ true → decimal (l .digits) ≡ 0 → ⊥
+  pub nonzero : l .minus ≡ true → decimalValue (l .digits) ≡ 0 → ⊥
 
 -- the byte of a digit
 abbrev pub digitByte : ℕ → ℕ
@@ -44,7 +44,7 @@ speltAll (l ∷ ls) = spelt l ++ speltAll ls
 
 -- the number of a line
 unfoldable pub valueOf : Line → ℤ
-valueOf l = cond (l .minus) (negℤ (pos (decimal (l .digits)))) (pos (decimal (l .digits)))
+valueOf l = cond (l .minus) (negℤ (pos (decimalValue (l .digits)))) (pos (decimalValue (l .digits)))
 
 -- a text that n good lines write, with these values
 pub record Written (n : ℕ) (text : List ℕ) (vs : List ℤ) : Type 0 where

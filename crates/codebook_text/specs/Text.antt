@@ -61,13 +61,13 @@ unfoldable pub isNumber : List ℕ → Bool
 isNumber line = isDigits (unsigned line) && not (isNegative line && eqb (digitsValue (unsigned line)) 0)
 
 -- a size with its sign
-abbrev pub signed : Bool → ℕ → ℤ
-signed true n = negℤ (pos n)
-signed false n = pos n
+abbrev pub withSign : Bool → ℕ → ℤ
+withSign true n = negℤ (pos n)
+withSign false n = pos n
 
 -- the number that a good line writes
 unfoldable pub numberOf : List ℕ → ℤ
-numberOf line = signed (isNegative line) (digitsValue (unsigned line))
+numberOf line = withSign (isNegative line) (digitsValue (unsigned line))
 
 -- nothing left
 abbrev pub isEmpty : List ℕ → Bool
