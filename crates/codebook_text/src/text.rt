@@ -9,9 +9,6 @@ ghost use Prim.Native.Nat.{_+_, _≤_};
 ghost use lib.ListN.{length, drop};
 ghost use Rattle.codebook_text.specs.Text.{lineOf, isLines, numbers, textAnswer, textWrites};
 
-// The refusal of a codebook: a wrong number of numbers, or a bad line.
-const BAD_CODEBOOK: u8 = 6;
-
 // The LSF codebook from its text, 3,200 lines. Refused: 6, a buffer of another size or any other text.
 pub fn read_lsf(text: &[u8], codebook: &mut [i64]) -> TextAnswer
     ensures answer { λ r. ⌜ r ≡ textAnswer 3200 (now (text .entry)) (length (now (codebook .entry))) ⌝ }
@@ -34,13 +31,13 @@ fn read(text: &[u8], codebook: &mut [i64], size: usize) -> TextAnswer
     ensures written { λ _. ⌜ now (codebook .exit) ≡ textWrites size (now (text .entry)) (now (codebook .entry)) ⌝ }
 {
     if codebook.len() != size {
-        return TextAnswer::Refused(BAD_CODEBOOK);
+        return TextAnswer::Refused(6);
     }
     if is_lines(text, size) {
         fill(text, codebook);
         return TextAnswer::Filled;
     }
-    TextAnswer::Refused(BAD_CODEBOOK)
+    TextAnswer::Refused(6)
 }
 
 // Whether a text is `n` good lines, each ended, and nothing more.
