@@ -7,6 +7,7 @@ use mathlib.Core.List.{List, [], _∷_}
 use lib.Dec.{leb, eqb}
 use lib.ListN.{length, drop}
 use lib.IntN.{ℤ, pos, negℤ}
+use Rattle.bits.specs.Lists.{writtenUnless}
 use Rattle.codebook_text.specs.declared.TextAnswer.{TextAnswer}
 use Rattle.codebook_text.specs.declared.TextAnswer.the-variants.{Filled, Refused}
 
@@ -101,11 +102,6 @@ filledUnless (suc n) = Refused (suc n)
 unfoldable pub textAnswer : ℕ → List ℕ → ℕ → TextAnswer
 textAnswer size text room = filledUnless (textRefusal size text room)
 
--- the numbers read, or those held before a refused call
-abbrev pub readUnless : ℕ → List ℤ → List ℤ → List ℤ
-readUnless zero read held = read
-readUnless (suc n) read held = held
-
 -- the buffer afterwards: the numbers of the text, and after a refusal all it held
 unfoldable pub textWrites : ℕ → List ℕ → List ℤ → List ℤ
-textWrites size text held = readUnless (textRefusal size text (length held)) (numbers size text) held
+textWrites size text held = writtenUnless (textRefusal size text (length held)) size (numbers size text) held

@@ -2,6 +2,7 @@
 use mathlib.Core.Path.{_≡_, refl, sym, ap, _∙_}
 use mathlib.Core.List.{List}
 use Prim.Native.Nat.{ℕ, zero, suc}
+use native.Mathlib.Omega.{arith}
 use lib.IntN.{ℤ}
 use lib.ListN.{length}
 use Rattle.sets.specs.declared.ParameterSet.{ParameterSet}
@@ -10,6 +11,7 @@ use Rattle.spectra.specs.Values.{lsfRefusal, lsfAnswer, lsfWrites, magnitudesRe
 use Rattle.spectra.specs.declared.ValuesAnswer.{ValuesAnswer}
 use Rattle.codebook_text.specs.Text.{textRefusal, textAnswer, textWrites, numbers}
 use Rattle.codebook_text.specs.declared.TextAnswer.{TextAnswer}
+use Rattle.codebook_text.proofs.Answers.{all-new}
 use Rattle.spectrum.specs.declared.values.Spectrum.{Spectrum}
 use Rattle.spectrum.specs.Values.{textNumber, valuesNumber, zeros, refused, unless, ofCodebooks, ofTexts}
 use Rattle.spectrum.proofs.Refusals.{text-number, values-number, first-none}
@@ -37,7 +39,7 @@ unless-refused (suc n) found h = refl
 written : (size : ℕ) (text : List ℕ) (held : List ℤ) → length held ≡ size → textRefusal size text size ≡ 0
     → textWrites size text held ≡ numbers size text
 unfolding textWrites
-written size text held h e = rw (h, e) refl
+written size text held h e = rw (h, e) (all-new size (numbers size text) held (omega arith))
 
 module _ (set : ParameterSet) (lsf magnitudes : List ℕ) (a b : TextAnswer) (m n r : ℕ)
     (ha : a ≡ textAnswer 3200 lsf 3200) (hm : m ≡ textNumber a) (hb : b ≡ textAnswer 2560 magnitudes 2560) (hn : n ≡ textNumber b)
