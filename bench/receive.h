@@ -85,26 +85,26 @@ static inline void read_frame(uint64_t bits, struct result *result)
 }
 
 /* Level of a second gain index. */
-static inline unsigned gain_level(unsigned g2)
+static inline unsigned level_of(unsigned g2)
 {
     return 1860 + 402 * g2;
 }
 
 /* First level of a frame by its gain codes and `q`, the G2 accepted before. */
-static inline unsigned first_gain_level(unsigned g2, unsigned code, unsigned q)
+static inline unsigned first_level_of(unsigned g2, unsigned code, unsigned q)
 {
     unsigned lower = g2 < q ? g2 : q, higher = g2 < q ? q : g2;
     if (code == 0)
-        return (gain_level(lower) + gain_level(higher)) / 2;
-    return gain_level(lower) - 1116 + (code - 1) * (67 * (higher - lower) + 372);
+        return (level_of(lower) + level_of(higher)) / 2;
+    return level_of(lower) - 1116 + (code - 1) * (67 * (higher - lower) + 372);
 }
 
 /* Levels of an accepted frame, whose set and G2 the record then keeps. */
 static inline void accept(struct record *record, struct result *result)
 {
     const struct parameter_set *set = &result->set;
-    result->first_level = first_gain_level(set->g2, set->g1, record->g2);
-    result->second_level = gain_level(set->g2);
+    result->first_level = first_level_of(set->g2, set->g1, record->g2);
+    result->second_level = level_of(set->g2);
     record->last = *set;
     record->g2 = set->g2;
 }
@@ -113,7 +113,7 @@ static inline void accept(struct record *record, struct result *result)
 static inline void repeat(const struct record *record, struct result *result)
 {
     result->set = record->last;
-    result->first_level = result->second_level = gain_level(record->g2);
+    result->first_level = result->second_level = level_of(record->g2);
 }
 
 /* Whether every field is in its range. Bandpass bits 0001 are, since a receiver may hear them. */

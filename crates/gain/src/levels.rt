@@ -8,20 +8,20 @@ ghost use Rattle.gain.specs.Levels.{level, apart, mean, firstLevel, leve
 const OUT_OF_RANGE: u8 = 5;
 
 // The level of a second code in units of 1/186 dB, by the formula alone.
-pub fn gain_level(g2: u8) -> u32
+pub fn level_of(g2: u8) -> u32
     ensures { λ r. ⌜ r ≡ level g2 ⌝ }
 {
     1860 + 402 * (g2 as u32)
 }
 
 // The first level of a frame by its codes and `q`, the second code before, by the formula alone.
-pub fn first_gain_level(g2: u8, code: u8, q: u8) -> u32
+pub fn first_level_of(g2: u8, code: u8, q: u8) -> u32
     ensures { λ r. ⌜ r ≡ firstLevel g2 code q ⌝ }
 {
     if code == 0 {
         return mean_level(g2, q);
     }
-    smaller(gain_level(g2), gain_level(q)) - 1116 + (code as u32 - 1) * first_step(g2, q)
+    smaller(level_of(g2), level_of(q)) - 1116 + (code as u32 - 1) * first_step(g2, q)
 }
 
 // The level of a second code, refused past 31.
@@ -29,7 +29,7 @@ pub fn level(g2: u8) -> LevelAnswer
     ensures { λ r. ⌜ r ≡ levelAnswer g2 ⌝ }
 {
     if g2 <= 31 {
-        LevelAnswer::Level(gain_level(g2))
+        LevelAnswer::Level(level_of(g2))
     } else {
         LevelAnswer::Refused(OUT_OF_RANGE)
     }
@@ -40,7 +40,7 @@ pub fn first_level(g2: u8, code: u8, q: u8) -> LevelAnswer
     ensures { λ r. ⌜ r ≡ firstLevelAnswer g2 code q ⌝ }
 {
     if (g2 <= 31) & (code <= 7) & (q <= 31) {
-        LevelAnswer::Level(first_gain_level(g2, code, q))
+        LevelAnswer::Level(first_level_of(g2, code, q))
     } else {
         LevelAnswer::Refused(OUT_OF_RANGE)
     }
@@ -50,7 +50,7 @@ pub fn first_level(g2: u8, code: u8, q: u8) -> LevelAnswer
 fn mean_level(g2: u8, q: u8) -> u32
     ensures { λ r. ⌜ r ≡ mean g2 q ⌝ }
 {
-    (gain_level(g2) + gain_level(q)) / 2
+    (level_of(g2) + level_of(q)) / 2
 }
 
 // The step between the seven levels of codes 1 to 7.

@@ -1,10 +1,10 @@
 // Gain levels (MIL-STD-3005, 5.3.3): from codes to the second level and to the first.
 mod levels;
 
-pub use levels::first_gain_level;
 pub use levels::first_level;
-pub use levels::gain_level;
+pub use levels::first_level_of;
 pub use levels::level;
+pub use levels::level_of;
 
 // The answer to a call for a level.
 pub enum LevelAnswer {

@@ -1,7 +1,7 @@
 // From two levels to their gain codes (5.3.3).
 use crate::CodesAnswer;
 use crate::uniform::quantise;
-use gain::first_gain_level;
+use gain::first_level_of;
 ghost use mathlib.Core.Path.{_≡_};
 ghost use mathlib.Core.Bool.{true};
 ghost use Prim.Native.Nat.{_≤_};
@@ -62,8 +62,8 @@ fn first_code(first: i32, g2: u8, q: u8) -> u8
     if is_steady(first, g2, q) {
         return 0;
     }
-    let lowest = first_gain_level(g2, 1, q);
-    let step = first_gain_level(g2, 2, q) - lowest;
+    let lowest = first_level_of(g2, 1, q);
+    let step = first_level_of(g2, 2, q) - lowest;
     1 + quantise(RAISE + lowest, step, 6, raised(first))
 }
 
@@ -72,7 +72,7 @@ fn is_steady(first: i32, g2: u8, q: u8) -> bool
     requires { ⌜ levelInRange first ≡ true ⌝ }
     ensures { λ r. ⌜ r ≡ steady first g2 q ⌝ }
 {
-    let mean = first_gain_level(g2, 0, q);
+    let mean = first_level_of(g2, 0, q);
     is_within(2, g2 as u32, q as u32) & is_within(558, raised(first), RAISE + mean)
 }
 

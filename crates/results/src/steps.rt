@@ -3,8 +3,8 @@ use crate::FrameResult;
 use crate::Kind;
 use crate::ReceiveAnswer;
 use crate::Received;
-use gain::first_gain_level;
-use gain::gain_level;
+use gain::first_level_of;
+use gain::level_of;
 use reading::Reading;
 use records::FrameKind;
 use records::Record;
@@ -37,8 +37,8 @@ fn accept(rec: Record, sync: bool, set: ParameterSet, repaired: u8) -> Received
         answer: ReceiveAnswer::Result(FrameResult {
             kind: kind_of(set),
             set,
-            first: first_gain_level(x.g2, x.g1, rec.g2),
-            second: gain_level(x.g2),
+            first: first_level_of(x.g2, x.g1, rec.g2),
+            second: level_of(x.g2),
             mute: is_muted(kinds),
             sync,
             repaired,
@@ -58,7 +58,7 @@ fn repeat(rec: Record, sync: bool) -> Received
     let last = rec.last;
     let old = rec.kinds;
     let kinds = push(old, FrameKind::Repeat);
-    let level = gain_level(rec.g2);
+    let level = level_of(rec.g2);
     Received {
         answer: ReceiveAnswer::Result(FrameResult {
             kind: Kind::Repeat,

@@ -25,19 +25,19 @@ returns : tie.Need-returns
 unfolding chosenG1
 returns c = simp (sym (steady-is (c .before)) ∙ c .if1 .taken)
 
-first-gain-level-requires : tie.Need-first-gain-level-requires
-first-gain-level-requires c κs = search needs
+first-level-of-requires : tie.Need-first-level-of-requires
+first-level-of-requires c κs = search needs
 
-first-gain-level-requires-2 : tie.Need-first-gain-level-requires-2
-first-gain-level-requires-2 c κs = search needs
+first-level-of-requires-2 : tie.Need-first-level-of-requires-2
+first-level-of-requires-2 c κs = search needs
 
 -- the level of code 2 is one step above that of code 1
-step-is : (c : tie.After-first-gain-level2) →
+step-is : (c : tie.After-first-level-of2) →
     let a = c .before .before .before .before .args in
-    c .first-gain-level2 .result ≡ c .before .first-gain-level .result + (67 * apart (a .g2) (a .q) + 372)
+    c .first-level-of2 .result ≡ c .before .first-level-of .result + (67 * apart (a .g2) (a .q) + 372)
 step-is c =
     let a = c .before .before .before .before .args in
-    omega (arith, first-next (a .g2) (a .q) 0, c .first-gain-level2 .ensures, c .before .first-gain-level .ensures)
+    omega (arith, first-next (a .g2) (a .q) 0, c .first-level-of2 .ensures, c .before .first-level-of .ensures)
 
 sub-step : tie.Need-sub-step
 sub-step c = omega (arith, step-is c)
@@ -67,10 +67,10 @@ returns-2 c =
     let s = t .before .before in
     let g2 = s .args .g2 in
     let q = s .args .q in
-    let base = b .first-gain-level .result in
-    let step = r .before .first-gain-level2 .result - base in
+    let base = b .first-level-of .result in
+    let step = r .before .first-level-of2 .result - base in
     let e : step ≡ 67 * apart g2 q + 372 = omega (arith, step-is (r .before)) in
-    let h : (i : ℕ) → 18600 + base + i * step ≡ 18600 + sevenLevels g2 q i = λ i. rw (e, b .first-gain-level .ensures, first-rises g2 q i) (omega arith) in
+    let h : (i : ℕ) → 18600 + base + i * step ≡ 18600 + sevenLevels g2 q i = λ i. rw (e, b .first-level-of .ensures, first-rises g2 q i) (omega arith) in
     let v : pos (r .raised .result) ≡ s .args .first +ℤ pos 18600 = simp (toZ-ofZ w32 _ (s .fits .first)) at (r .raised .ensures .0) in
     let n = nearest-raised (s .args .first) 18600 (r .raised .result) v (sevenLevels g2 q) (18600 + base) step h 6 in
     simp (sym (steady-is (t .before)) ∙ t .if1 .left) (ap (λ (i : ℕ). 1 + i) (c .quantise .ensures .0 ∙ n))
@@ -81,8 +81,8 @@ first-code-spec =
     (tie.spec
     is-steady-requires
     returns
-    first-gain-level-requires
-    first-gain-level-requires-2
+    first-level-of-requires
+    first-level-of-requires-2
     sub-step
     add-quantise
     raised-requires

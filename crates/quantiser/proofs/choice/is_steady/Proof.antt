@@ -14,8 +14,8 @@ use Rattle.quantiser.proofs.Raise.{apart-raised}
 use Rattle.quantiser.proofs.choice.is_steady.Statement.{statement}
 use Rattle.quantiser.proofs.choice.is_steady.Tie as tie
 
-first-gain-level-requires : tie.Need-first-gain-level-requires
-first-gain-level-requires c κs = search needs
+first-level-of-requires : tie.Need-first-level-of-requires
+first-level-of-requires c κs = search needs
 
 is-within-requires : tie.Need-is-within-requires
 is-within-requires c κs = search needs
@@ -24,9 +24,9 @@ raised-requires : tie.Need-raised-requires
 raised-requires c κs = search needs
 
 -- the mean, which code 0 stands for
-mean-is : (c : tie.After-first-gain-level) → c .first-gain-level .result ≡ mean (c .before .args .g2) (c .before .args .q)
+mean-is : (c : tie.After-first-level-of) → c .first-level-of .result ≡ mean (c .before .args .g2) (c .before .args .q)
 unfolding firstLevel
-mean-is c = c .first-gain-level .ensures
+mean-is c = c .first-level-of .ensures
 
 add-is-within : tie.Need-add-is-within
 add-is-within c = omega (arith, mean-is (c .before .before))
@@ -41,11 +41,11 @@ returns c =
     let s = f .before in
     let v = r .raised .result in
     let e : pos v ≡ s .args .first +ℤ pos 18600 = simp (toZ-ofZ w32 _ (s .fits .first)) at (r .raised .ensures .0) in
-    let m : apart v (18600 + f .first-gain-level .result) ≡ distance (s .args .first) (mean (s .args .g2) (s .args .q)) =
+    let m : apart v (18600 + f .first-level-of .result) ≡ distance (s .args .first) (mean (s .args .g2) (s .args .q)) =
     rw (mean-is f) (apart-raised (s .args .first) 18600 v e _) in
     simp (r .before .is-within .ensures, c .is-within2 .ensures ∙ ap (λ (d : ℕ). leb d 558) m)
 
 pub is-steady-spec : {M : Type 1} → statement M
 is-steady-spec =
     tie.close
-    (tie.spec first-gain-level-requires is-within-requires raised-requires add-is-within is-within-requires-2 returns)
+    (tie.spec first-level-of-requires is-within-requires raised-requires add-is-within is-within-requires-2 returns)

@@ -13,11 +13,11 @@ indices-of-requires c κs = search needs
 kind-of-requires : tie.Need-kind-of-requires
 kind-of-requires c κs = search needs
 
-first-gain-level-requires : tie.Need-first-gain-level-requires
-first-gain-level-requires c κs = search needs
+first-level-of-requires : tie.Need-first-level-of-requires
+first-level-of-requires c κs = search needs
 
-gain-level-requires : tie.Need-gain-level-requires
-gain-level-requires c κs = search needs
+level-of-requires : tie.Need-level-of-requires
+level-of-requires c κs = search needs
 
 is-muted-requires : tie.Need-is-muted-requires
 is-muted-requires c κs = search needs
@@ -29,8 +29,8 @@ returns c =
     let indexed = first .before .before in
     simp (
       c .is-muted .ensures,
-      c .before .gain-level .ensures,
-      first .first-gain-level .ensures,
+      c .before .level-of .ensures,
+      first .first-level-of .ensures,
       first .before .kind-of .ensures,
       indexed .indices-of .ensures,
       indexed .before .push .ensures,
@@ -39,4 +39,4 @@ returns c =
 pub accept-spec : {M : Type 1} → statement M
 accept-spec =
     tie.close
-    (tie.spec push-requires indices-of-requires kind-of-requires first-gain-level-requires gain-level-requires is-muted-requires returns)
+    (tie.spec push-requires indices-of-requires kind-of-requires first-level-of-requires level-of-requires is-muted-requires returns)

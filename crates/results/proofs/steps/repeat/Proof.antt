@@ -7,15 +7,15 @@ use Rattle.results.proofs.steps.repeat.Tie as tie
 push-requires : tie.Need-push-requires
 push-requires c κs = search needs
 
-gain-level-requires : tie.Need-gain-level-requires
-gain-level-requires c κs = search needs
+level-of-requires : tie.Need-level-of-requires
+level-of-requires c κs = search needs
 
 is-muted-requires : tie.Need-is-muted-requires
 is-muted-requires c κs = search needs
 
 returns : tie.Need-returns
 unfolding repeated
-returns c = simp (c .is-muted .ensures, c .before .gain-level .ensures, c .before .before .push .ensures)
+returns c = simp (c .is-muted .ensures, c .before .level-of .ensures, c .before .before .push .ensures)
 
 pub repeat-spec : {M : Type 1} → statement M
-repeat-spec = tie.close (tie.spec push-requires gain-level-requires is-muted-requires returns)
+repeat-spec = tie.close (tie.spec push-requires level-of-requires is-muted-requires returns)

@@ -1,12 +1,12 @@
--- `gain::levels::first_gain_level` meets its contract: the steps above the smaller level stay far below the end of the type. Assumes nothing.
+-- `gain::levels::first_level_of` meets its contract: the steps above the smaller level stay far below the end of the type. Assumes nothing.
 use Prim.Native.Nat.{_-_, _*_, _≤_}
 use native.Mathlib.Nat.{mul-le-mul}
 use native.Mathlib.Omega.{arith}
 use borrow.Author.Needs.{needs}
 use Rattle.gain.specs.Levels.{firstLevel}
 use Rattle.gain.proofs.FirstLevel.{first-of}
-use Rattle.gain.proofs.levels.first_gain_level.Statement.{statement}
-use Rattle.gain.proofs.levels.first_gain_level.Tie as tie
+use Rattle.gain.proofs.levels.first_level_of.Statement.{statement}
+use Rattle.gain.proofs.levels.first_level_of.Tie as tie
 
 -- the steps of any code above the smaller level
 steps-fit : (c : tie.After-first-step) → (c .before .before .before .before .before .args .code - 1) * c .first-step .result ≤ 255 * 20000
@@ -19,11 +19,11 @@ returns : tie.Need-returns
 unfolding firstLevel
 returns c = simp (c .before .if1 .taken, c .mean-level .ensures)
 
-gain-level-requires : tie.Need-gain-level-requires
-gain-level-requires c κs = search needs
+level-of-requires : tie.Need-level-of-requires
+level-of-requires c κs = search needs
 
-gain-level-requires-2 : tie.Need-gain-level-requires-2
-gain-level-requires-2 c κs = search needs
+level-of-requires-2 : tie.Need-level-of-requires-2
+level-of-requires-2 c κs = search needs
 
 smaller-requires : tie.Need-smaller-requires
 smaller-requires c κs = search needs
@@ -48,16 +48,16 @@ returns-2 c =
     let a = c .before .before .before .before .before .args in
     let l = c .before .before .before in
     let f = first-of (a .g2) (a .q) (a .code) (l .before .if1 .left) in
-    simp (f, c .before .smaller .ensures, c .before .before .gain-level2 .ensures, l .gain-level .ensures, c .first-step .ensures)
+    simp (f, c .before .smaller .ensures, c .before .before .level-of2 .ensures, l .level-of .ensures, c .first-step .ensures)
 
-pub first-gain-level-spec : {M : Type 1} → statement M
-first-gain-level-spec =
+pub first-level-of-spec : {M : Type 1} → statement M
+first-level-of-spec =
     tie.close
     (tie.spec
     mean-level-requires
     returns
-    gain-level-requires
-    gain-level-requires-2
+    level-of-requires
+    level-of-requires-2
     smaller-requires
     sub-result
     sub-result-2
