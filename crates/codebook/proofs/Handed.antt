@@ -15,13 +15,13 @@ use Rattle.codebook.specs.Rows.{magnitudeSize, magnitudeRow, magnitudeFi
 use Rattle.codebook.specs.Rows.{rowAt, allFit, rowUnless}
 use Rattle.codebook.proofs.StageRows.{row-lt}
 
--- a row that the codebook has
+-- a row that the codebook has is ten numbers
 pub row-length : (codebook : List ℤ) (k : ℕ) → 10 * k + 10 ≤ length codebook → length (rowAt codebook k) ≡ 10
 row-length codebook k h =
     let d : 10 ≤ length (drop (10 * k) codebook) = simp length-drop (omega arith) in
     length-take-le 10 (drop (10 * k) codebook) d
 
--- a row of a stage, and a row of magnitudes
+-- so is a row of a stage, and a row of magnitudes
 pub lsf-length : (codebook : List ℤ) (stage index : ℕ) → length codebook ≡ lsfSize → index < stageRows stage → length (lsfRow codebook stage index) ≡ 10
 lsf-length codebook stage index h i = row-length codebook (stageStart stage + index) (omega (arith, row-lt stage index i))
 

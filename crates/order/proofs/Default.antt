@@ -5,6 +5,7 @@ use Prim.Native.Nat.{ℕ, _*_, _%_, _<_}
 use Rattle.bits.proofs.Every.{equal-at}
 use Rattle.order.specs.Order.{times, Order, placeOf, orderBy, defaultOrder}
 
+-- it is an order
 pub default-order : Order defaultOrder
 unfolding placeOf orderBy defaultOrder
 default-order = record { size = refl; once = equal-at 54 (λ j. times j defaultOrder) (λ j. 1) tt }

@@ -27,8 +27,8 @@ fn write_sign(x: i64, line: &mut Line) -> usize
     0
 }
 
-// A number without its sign.
-fn size_of(x: i64) -> u64
+// The absolute value of a number.
+fn absolute(x: i64) -> u64
     ensures { λ r. ⌜ r ≡ natAbs x ⌝ }
 {
     if x < 0 {
@@ -45,7 +45,7 @@ pub fn value_line(x: i64, out: &mut [u8], at: usize) -> LineAnswer
 {
     let mut line = [0u8; 144];
     let digits = write_sign(x, &mut line);
-    let end = write_decimal(size_of(x), &mut line, digits);
+    let end = write_decimal(absolute(x), &mut line, digits);
     place_line(&mut line, end, out, at)
 }
 

@@ -13,7 +13,7 @@ use Rattle.sets.specs.Sets.{inRange}
 use Rattle.sets.specs.declared.ParameterSet.{ParameterSet}
 use Rattle.codebook.specs.Rows.{refusal}
 use Rattle.bits.specs.Lists.{writtenUnless}
-use Rattle.spectra.specs.Values.{valuesRefusal, answerUnless}
+use Rattle.spectra.specs.Values.{valuesRefusal, valuesUnless}
 use Rattle.spectra.specs.declared.ValuesAnswer.{ValuesAnswer}
 use Rattle.spectra.specs.declared.ValuesAnswer.the-variants.{Written, Refused}
 
@@ -33,7 +33,7 @@ passes false true false e = absurd (omega arith)
 passes false false whole e = absurd (omega arith)
 
 -- a number that is not 0 is answered as it is
-answer-refused : (n : ℕ) → (n ≡ 0 → ⊥) → Refused n ≡ answerUnless n
+answer-refused : (n : ℕ) → (n ≡ 0 → ⊥) → Refused n ≡ valuesUnless n
 answer-refused zero h = absurd (h refl)
 answer-refused (suc n) h = refl
 
@@ -44,7 +44,7 @@ written-refused (suc n) values out h = refl
 
 -- what a call answers and leaves
 abbrev pub Owed : ℕ → List ℤ → List ℤ → ValuesAnswer → List ℤ → Type 0
-Owed n values out r after = (r ≡ answerUnless n) × (after ≡ writtenUnless n 10 values out)
+Owed n values out r after = (r ≡ valuesUnless n) × (after ≡ writtenUnless n 10 values out)
 
 module _ (set : ParameterSet) (codebook : List ℤ) (size : ℕ) (out values : List ℤ) (fit : Bool) where
   -- a refusal before any row is looked at
@@ -53,7 +53,7 @@ module _ (set : ParameterSet) (codebook : List ℤ) (size : ℕ) (out values : L
   early-owes n e h =
       let k = early (ltb (length out) 10) (inRange set) (eqb (length codebook) size) fit (λ z. h (e ∙ z)) in
       let m = e ∙ sym k in
-      (answer-refused n h ∙ ap answerUnless m, written-refused n values out h ∙ ap (λ (i : ℕ). writtenUnless i 10 values out) m)
+      (answer-refused n h ∙ ap valuesUnless m, written-refused n values out h ∙ ap (λ (i : ℕ). writtenUnless i 10 values out) m)
 
 -- what is known where nothing is refused before the rows
 pub record Passed (set : ParameterSet) (codebook : List ℤ) (size room : ℕ) : Type 0 where
@@ -80,7 +80,7 @@ pub rows-owe : (set : ParameterSet) (codebook : List ℤ) (size : ℕ) (out valu
     → Owed (valuesRefusal set codebook size (length out) fit) values out r after
 rows-owe set codebook size out values fit p r after o =
     let m = sym (p .rest fit) in
-    (o .0 ∙ ap answerUnless m, o .1 ∙ ap (λ (i : ℕ). writtenUnless i 10 values out) m)
+    (o .0 ∙ ap valuesUnless m, o .1 ∙ ap (λ (i : ℕ). writtenUnless i 10 values out) m)
 
 -- values written, where all entries fit
 pub written-owes : (values out : List ℤ) (fit : Bool) → fit ≡ true → (after : List ℤ) → after ≡ values ++ drop 10 out
@@ -96,6 +96,6 @@ pub owed-same : (out : List ℤ) (r : ValuesAnswer) (after : List ℤ) (fit fit�
     → fit ≡ fit′ → (fit′ ≡ true → values ≡ values′)
     → Owed (cond fit 0 7) values out r after → Owed (cond fit′ 0 7) values′ out r after
 owed-same out r after fit true values values′ f v o =
-    (o .0 ∙ ap (λ (t : Bool). answerUnless (cond t 0 7)) f, o .1 ∙ (λ i. writtenUnless (cond (f i) 0 7) 10 (v refl i) out))
+    (o .0 ∙ ap (λ (t : Bool). valuesUnless (cond t 0 7)) f, o .1 ∙ (λ i. writtenUnless (cond (f i) 0 7) 10 (v refl i) out))
 owed-same out r after fit false values values′ f v o =
-    (o .0 ∙ ap (λ (t : Bool). answerUnless (cond t 0 7)) f, o .1 ∙ ap (λ (t : Bool). writtenUnless (cond t 0 7) 10 values out) f)
+    (o .0 ∙ ap (λ (t : Bool). valuesUnless (cond t 0 7)) f, o .1 ∙ ap (λ (t : Bool). writtenUnless (cond t 0 7) 10 values out) f)

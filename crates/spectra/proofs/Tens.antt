@@ -16,6 +16,7 @@ use Rattle.spectra.specs.Values.{spacing, lsfValues, magnitudes}
 use Rattle.spectra.proofs.Sums.{four-length}
 use Rattle.spectra.proofs.Raised.{raised-length}
 
+-- of LSF
 pub lsf-ten : (codebook : List ℤ) (set : ParameterSet) → length codebook ≡ lsfSize → T (inRange set) → length (lsfValues codebook set) ≡ 10
 unfolding lsfValues
 lsf-ten codebook set h t =
@@ -25,6 +26,7 @@ lsf-ten codebook set h t =
     ∙ four-length 10 _ _ _ _ (lsf-length codebook 1 (x .l1) h (r .l1)) (lsf-length codebook 2 (x .l2) h (r .l2))
     (lsf-length codebook 3 (x .l3) h (r .l3)) (lsf-length codebook 4 (x .l4) h (r .l4))
 
+-- and of magnitudes
 pub magnitudes-ten : (codebook : List ℤ) (set : ParameterSet) → length codebook ≡ magnitudeSize → T (inRange set) → length (magnitudes codebook set) ≡ 10
 magnitudes-ten codebook (Unvoiced x) h t = refl
 magnitudes-ten codebook (Voiced x v) h t =

@@ -77,13 +77,13 @@ abbrev pub magnitudesRefusal : ParameterSet → List ℤ → ℕ → ℕ
 magnitudesRefusal set codebook room = valuesRefusal set codebook magnitudeSize room (magnitudesFit codebook set)
 
 -- the answer: values written, or the refusal's number
-abbrev pub answerUnless : ℕ → ValuesAnswer
-answerUnless zero = Written
-answerUnless (suc n) = Refused (suc n)
+abbrev pub valuesUnless : ℕ → ValuesAnswer
+valuesUnless zero = Written
+valuesUnless (suc n) = Refused (suc n)
 
 -- what a call for LSF values answers, for an output of `room` numbers
 unfoldable pub lsfAnswer : ParameterSet → List ℤ → ℕ → ValuesAnswer
-lsfAnswer set codebook room = answerUnless (lsfRefusal set codebook room)
+lsfAnswer set codebook room = valuesUnless (lsfRefusal set codebook room)
 
 -- and what its output holds afterwards: the values in front and all past the tenth number kept; after a refusal all kept
 unfoldable pub lsfWrites : ParameterSet → List ℤ → List ℤ → List ℤ
@@ -91,7 +91,7 @@ lsfWrites set codebook out = writtenUnless (lsfRefusal set codebook (length out)
 
 -- what a call for magnitudes answers
 unfoldable pub magnitudesAnswer : ParameterSet → List ℤ → ℕ → ValuesAnswer
-magnitudesAnswer set codebook room = answerUnless (magnitudesRefusal set codebook room)
+magnitudesAnswer set codebook room = valuesUnless (magnitudesRefusal set codebook room)
 
 -- and what its output holds afterwards
 unfoldable pub magnitudesWrites : ParameterSet → List ℤ → List ℤ → List ℤ

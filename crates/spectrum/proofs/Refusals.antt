@@ -3,7 +3,7 @@ use mathlib.Core.Path.{_≡_, refl}
 use Prim.Native.Nat.{ℕ, zero, suc}
 use native.Mathlib.Omega.{arith}
 use Rattle.receiver.specs.Receiving.{firstRefusal}
-use Rattle.spectra.specs.Values.{answerUnless}
+use Rattle.spectra.specs.Values.{valuesUnless}
 use Rattle.codebook_text.specs.Text.{filledUnless}
 use Rattle.spectrum.specs.Values.{textNumber, valuesNumber}
 
@@ -13,7 +13,7 @@ text-number zero = refl
 text-number (suc n) = refl
 
 -- and so does an answer with values
-pub values-number : (n : ℕ) → valuesNumber (answerUnless n) ≡ n
+pub values-number : (n : ℕ) → valuesNumber (valuesUnless n) ≡ n
 values-number zero = refl
 values-number (suc n) = refl
 

@@ -32,6 +32,7 @@ fn output_agrees(r: [u8; 64], out: [u8; 16]) -> bool {
     same
 }
 
+// Kind 1: packing.
 pub(crate) fn pack_agrees(r: [u8; 64]) -> bool {
     let room = r[13] as usize;
     if 16 < room {
@@ -42,6 +43,7 @@ pub(crate) fn pack_agrees(r: [u8; 64]) -> bool {
     answer_agrees(r, answer) & output_agrees(r, out)
 }
 
+// Kind 2: the class of a pitch code.
 pub(crate) fn class_agrees(r: [u8; 64]) -> bool {
     match pitch::classify(r[1]) {
         ClassAnswer::Refused(n) => (n != 0) & (r[2] == n),
@@ -53,6 +55,7 @@ pub(crate) fn class_agrees(r: [u8; 64]) -> bool {
     }
 }
 
+// Kind 3: the code of a pitch index.
 pub(crate) fn code_agrees(r: [u8; 64]) -> bool {
     match pitch::encode(r[1]) {
         CodeAnswer::Refused(n) => (n != 0) & (r[2] == n),
@@ -71,6 +74,7 @@ fn length_of(r: [u8; 64]) -> WordLength {
     WordLength::Eight
 }
 
+// Kind 4: what a word is read as.
 pub(crate) fn word_agrees(r: [u8; 64]) -> bool {
     match hamming::decode(length_of(r), r[2]) {
         Decoded::Erased => r[3] == 1,
@@ -78,6 +82,7 @@ pub(crate) fn word_agrees(r: [u8; 64]) -> bool {
     }
 }
 
+// Kind 5: the parity of data.
 pub(crate) fn parity_agrees(r: [u8; 64]) -> bool {
     hamming::parity_of(length_of(r), r[2]) == r[3]
 }

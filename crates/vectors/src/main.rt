@@ -33,6 +33,7 @@ fn differences(s: &[u8]) -> usize {
     wrong
 }
 
+// Reads the vectors and prints how many there are and how many differ.
 fn main() {
     let mut buffer = io::large_buffer();
     let got = io::read_full(0, &mut buffer);

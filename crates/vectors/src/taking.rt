@@ -140,6 +140,7 @@ fn answer_agrees(r: [u8; 64], answer: ReceiveAnswer) -> bool {
     }
 }
 
+// Kind 9: receiving.
 pub(crate) fn receive_agrees(r: [u8; 64]) -> bool {
     let size = r[15] as usize;
     if 9 < size {

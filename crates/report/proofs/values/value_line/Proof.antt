@@ -17,12 +17,12 @@ use Rattle.report.proofs.values.value_line.Tie as tie
 write-sign-requires : tie.Need-write-sign-requires
 write-sign-requires c κs = search needs
 
-size-of-requires : tie.Need-size-of-requires
-size-of-requires c κs = search needs
+absolute-requires : tie.Need-absolute-requires
+absolute-requires c κs = search needs
 
 write-decimal-requires : tie.Need-write-decimal-requires
 write-decimal-requires c κs =
-    let z = c .before .size-of in
+    let z = c .before .absolute in
     let s = c .before .before .write-sign .ensures in
     (s .2, omega (arith, s .1, decimal-length 19 (z .result) (omega (arith, z .ok))))
 
@@ -31,7 +31,7 @@ slice-aggregate-place-line c = search needs
 
 place-line-requires : tie.Need-place-line-requires
 place-line-requires c κs =
-    let z = c .before .before .before .before .size-of in
+    let z = c .before .before .before .before .absolute in
     omega (arith, decimal-length 19 (z .result) (omega (arith, z .ok)))
 
 same-length : tie.Need-same-length
@@ -47,10 +47,10 @@ returns c =
     let s = d1 .before .before .before in
     let x = s .args .x in
     let y = toZ w64 (ofZ w64 x) in
-    let n = z .size-of .result in
-    let d = wrote-within _ _ _ _ _ 20 (decimal n) (decimal-length 19 n (omega (arith, z .size-of .ok))) (d2 .write-decimal .ensures) in
+    let n = z .absolute .result in
+    let d = wrote-within _ _ _ _ _ 20 (decimal n) (decimal-length 19 n (omega (arith, z .absolute .ok))) (d2 .write-decimal .ensures) in
     let w = wrote-more (replicate 144 0) _ _ 0 _ _ 1 20 (sign y) (decimal n) (d1 .write-sign .ensures) d in
-    let t : sign y ++ decimal n ≡ signed x = rw (z .size-of .ensures, toZ-ofZ w64 x (s .fits .x)) refl in
+    let t : sign y ++ decimal n ≡ signed x = rw (z .absolute .ensures, toZ-ofZ w64 x (s .fits .x)) refl in
     line-placed (replicate 144 0) _ (signed x) _ 21 22 (s .args .out .now) _ (s .args .at) _ (rw t at w) (omega arith) (p .place-line .ensures)
 
 pub value-line-spec : {M : Type 1} → statement M
@@ -58,7 +58,7 @@ value-line-spec =
     tie.close
     (tie.spec
     write-sign-requires
-    size-of-requires
+    absolute-requires
     write-decimal-requires
     slice-aggregate-place-line
     place-line-requires

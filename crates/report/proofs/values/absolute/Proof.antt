@@ -1,4 +1,4 @@
--- `report::values::size_of` meets its contract: -1 - x is one less than the size of a negative x. Assumes nothing.
+-- `report::values::absolute` meets its contract: -1 - x is one less than the size of a negative x. Assumes nothing.
 use mathlib.Core.Path.{_≡_}
 use mathlib.Core.Bool.{true, false}
 use native.Mathlib.Omega.{arith}
@@ -7,8 +7,8 @@ use lib.Signed.{ltZ}
 use mir.Syntax.{w64}
 use mir.ValLaws.{toZ-ofZ}
 use Rattle.report.proofs.Sizes.{Complement, complement, not-negative}
-use Rattle.report.proofs.values.size_of.Statement.{statement}
-use Rattle.report.proofs.values.size_of.Tie as tie
+use Rattle.report.proofs.values.absolute.Statement.{statement}
+use Rattle.report.proofs.values.absolute.Tie as tie
 
 -- of a negative x
 below : (c : tie.Then1) → Complement (c .before .args .x)
@@ -45,5 +45,5 @@ cast-result-2 c =
 returns-2 : tie.Need-returns-2
 returns-2 c = simp (toZ-ofZ w64 _ (c .before .fits .x))
 
-pub size-of-spec : {M : Type 1} → statement M
-size-of-spec = tie.close (tie.spec sub-result cast-result add-result returns cast-result-2 returns-2)
+pub absolute-spec : {M : Type 1} → statement M
+absolute-spec = tie.close (tie.spec sub-result cast-result add-result returns cast-result-2 returns-2)
