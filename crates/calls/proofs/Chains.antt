@@ -20,9 +20,8 @@ use Rattle.records.specs.declared.Record.{Record}
 use Rattle.results.specs.declared.ReceiveAnswer.{ReceiveAnswer}
 use Rattle.results.specs.declared.ReceiveAnswer.the-variants.{Result}
 use Rattle.results.specs.declared.Received.{Received}
-use Rattle.receiver.proofs.Answers.{resultIn, step-answers}
-use Rattle.receiver.proofs.Results.{packed-accepted, arrived-taken}
-use Rattle.receiver.proofs.Validity.{accepted-valid}
+use Rattle.results.proofs.Yields.{resultIn, step-answers, accepted-valid}
+use Rattle.receiver.proofs.Arrived.{packed-accepted, arrived-taken}
 use Rattle.calls.specs.Model.{Answer, done, outcomes, answerOf, receiveModel}
 use Rattle.calls.specs.Observed.{sent}
 use Rattle.calls.specs.Frames.{Row, setOf}

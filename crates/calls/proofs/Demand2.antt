@@ -10,8 +10,8 @@ use Rattle.results.specs.Steps.{accepted}
 use Rattle.receiver.specs.Receiving.{receive}
 use Rattle.records.specs.declared.Record.{Record}
 use Rattle.results.specs.declared.Received.{Received}
-use Rattle.receiver.proofs.Answers.{resultIn}
-use Rattle.receiver.proofs.Results.{packed-accepted}
+use Rattle.results.proofs.Yields.{resultIn}
+use Rattle.receiver.proofs.Arrived.{packed-accepted}
 use Rattle.calls.specs.Observed.{PackCall, ReceiveCall, sent, PackStep, ReceiveStep, packCallRefusal}
 use Rattle.calls.specs.Return.{Returns}
 use Rattle.calls.proofs.Steps.{pack-sendable, pack-sent, receive-answer, receive-left}

@@ -10,7 +10,7 @@ use Rattle.frame.specs.Packing.{freshSync}
 use Rattle.frame.specs.Damage.{logicalFlips, Correctable, Within}
 use Rattle.records.specs.Records.{fresh}
 use Rattle.records.specs.declared.Record.{Record}
-use Rattle.receiver.proofs.Validity.{fresh-valid}
+use Rattle.records.proofs.Validity.{fresh-valid}
 use Rattle.calls.specs.Model.{packModel, receiveModel}
 use Rattle.calls.specs.Observed.{PackCall, ReceiveCall, packLeft, packOutcome, receiveOutcome, lentAfter}
 use Rattle.calls.specs.Observed.{PackStep, ReceiveStep, packCallRefusal, receiveCallRefusal, unrefused}

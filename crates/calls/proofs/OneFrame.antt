@@ -20,8 +20,8 @@ use Rattle.results.specs.declared.Kind.{Kind}
 use Rattle.results.specs.declared.Kind.the-variants as kind
 use Rattle.records.specs.declared.Record.{Record}
 use Rattle.results.specs.declared.Received.{Received}
-use Rattle.receiver.proofs.Answers.{resultIn}
-use Rattle.receiver.proofs.Results.{packed-accepted, correctable-accepted, double-repeated, voiced-kept}
+use Rattle.results.proofs.Yields.{resultIn}
+use Rattle.receiver.proofs.Arrived.{packed-accepted, correctable-accepted, double-repeated, voiced-kept}
 use Rattle.calls.specs.Frames.{CorrectableFrame, FrameClaim, SameLevels}
 
 -- a kind is unvoiced

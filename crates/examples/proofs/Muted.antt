@@ -15,7 +15,7 @@ use Rattle.records.specs.declared.Past.{Past}
 use Rattle.records.specs.declared.Record.{Record}
 use Rattle.results.specs.declared.Received.{Received}
 use Rattle.receiver.proofs.Taken.{not-refused, receive-taken}
-use Rattle.receiver.proofs.Validity.{fresh-valid}
+use Rattle.records.proofs.Validity.{fresh-valid}
 use Rattle.calls.specs.Model.{outcomes, answerOf, receiveModel}
 use Rattle.bits.specs.Lists.{Every}
 use Rattle.examples.specs.Examples.{Erases, muteIn, Mutes}

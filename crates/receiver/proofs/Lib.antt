@@ -1,6 +1,6 @@
 pub mod Taken
 pub mod Answers
 pub mod Sync
-pub mod Results
+pub mod Arrived
 pub mod Validity
 pub mod Cases

@@ -29,7 +29,8 @@ use Rattle.receiver.specs.Receiving.{receive}
 use Rattle.results.specs.declared.Kind.the-variants as kind
 use Rattle.records.specs.declared.Record.{Record}
 use Rattle.results.specs.declared.Received.{Received}
-use Rattle.receiver.proofs.Answers.{resultIn, step-kind}
+use Rattle.results.proofs.Yields.{resultIn}
+use Rattle.receiver.proofs.Answers.{step-kind}
 use Rattle.receiver.proofs.Taken.{not-refused, receive-taken}
 
 -- the pitch index of a voiced set that a sender takes
