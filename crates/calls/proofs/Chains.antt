@@ -25,7 +25,7 @@ use Rattle.receiver.proofs.Arrived.{packed-accepted, arrived-taken}
 use Rattle.calls.specs.Model.{Answer, done, outcomes, answerOf, receiveModel}
 use Rattle.calls.specs.Observed.{sent}
 use Rattle.calls.specs.Frames.{Row, setOf}
-use Rattle.calls.proofs.Rows.{Known, Chain, arrived}
+use Rattle.calls.proofs.Rows.{Known, Chain, got}
 
 module _ (ord : List ℕ) (o : Order ord) where
   -- each row has the channel's flips of its frame
@@ -42,8 +42,8 @@ module _ (ord : List ℕ) (o : Order ord) where
   chain-answers r u flips (w ∷ ws) h =
       let k = h .0 in
       let e = arrived-taken ord o r (k .is-valid) (w .packing .given) (w .flips) (setOf w) in
-      let whole : receive ord r (arrived ord w) .answer ≡ Result (resultIn (receive ord r (arrived ord w) .answer)) =
-      subst⁻¹ (λ (y : Received). y .answer ≡ Result (resultIn (y .answer))) e (step-answers r _ (read (logicalBit ord (arrived ord w)))) in
+      let whole : receive ord r (got ord w) .answer ≡ Result (resultIn (receive ord r (got ord w) .answer)) =
+      subst⁻¹ (λ (y : Received). y .answer ≡ Result (resultIn (y .answer))) e (step-answers r _ (read (logicalBit ord (got ord w)))) in
       ap₂ (λ (a : ReceiveAnswer) (l : List ReceiveAnswer). a ∷ l) (k .answers ∙ whole ∙ ap Result (sym (k .result-is))) (chain-answers _ _ _ ws (h .2))
 
   -- what the clean receiver makes of the frame as sent

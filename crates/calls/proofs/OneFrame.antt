@@ -5,10 +5,11 @@ use mathlib.Core.Bool.{Bool, true, false, false≢true}
 use mathlib.Core.List.{List}
 use Prim.Native.Nat.{ℕ}
 use lib.Dec.{T}
-use Rattle.order.specs.Order.{Order, through}
+use Rattle.order.specs.Order.{Order}
 use Rattle.sets.specs.Sets.{indicesIn, sendable}
 use Rattle.frame.specs.Layout.{frame}
 use Rattle.frame.specs.Damage.{logicalFlips, Correctable, Within}
+use Rattle.frame.proofs.Ordered.{arrived}
 use Rattle.sets.specs.declared.ParameterSet.{ParameterSet}
 use Rattle.sets.specs.declared.ParameterSet.the-variants.{Unvoiced, Voiced}
 use Rattle.gain.specs.Levels.{firstLevel}
@@ -38,7 +39,7 @@ module _ (ord : List ℕ) (o : Order ord) (width : ℕ) (spread : (fl : ℕ → 
     (sync : Bool) (fl : ℕ → Bool) where
   -- the result of a set's frame as it comes, in a record
   abbrev pub resultOf : Record → ParameterSet → FrameResult
-  resultOf r set = resultIn (receive ord r (through fl (frame ord set sync)) .answer)
+  resultOf r set = resultIn (receive ord r (arrived ord set sync fl) .answer)
 
   -- the result of the frame as it was sent
   abbrev pub cleanOf : Record → ParameterSet → FrameResult
@@ -71,7 +72,7 @@ module _ (ord : List ℕ) (o : Order ord) (width : ℕ) (spread : (fl : ℕ → 
     -- beside a receiver that gets the frame as sent: the same G2 is accepted, and where the G2 before was the same the levels are
     module _ (u : Record) (clean : T (valid u)) where
       pub same-g2 : (set : ParameterSet) → T (sendable set) → CorrectableFrame ord set fl
-          → receive ord r (through fl (frame ord set sync)) .next .g2 ≡ receive ord u (frame ord set sync) .next .g2
+          → receive ord r (arrived ord set sync fl) .next .g2 ≡ receive ord u (frame ord set sync) .next .g2
       unfolding accepted
       same-g2 (Unvoiced x) t k =
           ap (λ (y : Received). y .next .g2) (correctable-accepted ord o r ok sync fl x t (k .few))

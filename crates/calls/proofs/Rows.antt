@@ -8,6 +8,7 @@ use lib.Dec.{T}
 use Rattle.order.specs.Order.{through}
 use Rattle.sets.specs.Sets.{sendable}
 use Rattle.frame.specs.Layout.{frame}
+use Rattle.frame.proofs.Ordered.{arrived}
 use Rattle.records.specs.Records.{valid}
 use Rattle.receiver.specs.Receiving.{receive}
 use Rattle.records.specs.declared.Record.{Record}
@@ -20,17 +21,17 @@ use Rattle.calls.proofs.Steps.{pack-sendable, pack-sent, receive-answer
 
 module _ (ord : List ℕ) where
   -- the frame that a row's receiver gets
-  abbrev pub arrived : Row → List ℕ
-  arrived w = through (w .flips) (frame ord (setOf w) (w .packing .given))
+  abbrev pub got : Row → List ℕ
+  got w = arrived ord (setOf w) (w .packing .given) (w .flips)
 
   -- what is known of a row whose receiver has the record r, and the clean receiver u
   pub record Known (r u : Record) (w : Row) : Type 0 where
     pub may-send : T (sendable (setOf w))
     pub is-sent : sent (w .packing) ≡ frame ord (setOf w) (w .packing .given)
     pub is-valid : T (valid r)
-    pub answers : w .receiving .answer ≡ receive ord r (arrived w) .answer
-    pub leaves : w .receiving .left ≡ receive ord r (arrived w) .next
-    pub result-is : w .result ≡ resultIn (receive ord r (arrived w) .answer)
+    pub answers : w .receiving .answer ≡ receive ord r (got w) .answer
+    pub leaves : w .receiving .left ≡ receive ord r (got w) .next
+    pub result-is : w .result ≡ resultIn (receive ord r (got w) .answer)
     pub clean-is : w .clean ≡ resultIn (receive ord u (frame ord (setOf w) (w .packing .given)) .answer)
 
   -- rows in which both receivers go on from row to row, and the channel from frame to frame
@@ -38,7 +39,7 @@ module _ (ord : List ℕ) where
   Chain r u flips [] = Unit
   Chain r u flips (w ∷ ws) =
       Known r u w × (w .flips ≡ flips 0)
-      × Chain (receive ord r (arrived w) .next) (receive ord u (frame ord (setOf w) (w .packing .given)) .next) (λ k. flips (suc k)) ws
+      × Chain (receive ord r (got w) .next) (receive ord u (frame ord (setOf w) (w .packing .given)) .next) (λ k. flips (suc k)) ws
 
   -- a call that keeps to the model and is not refused
   abbrev pub PacksFrame : PackCall → Type 0
@@ -60,8 +61,8 @@ module _ (ord : List ℕ) where
   row-known : (r u : Record) (fl : ℕ → Bool) (p : PackCall) (q : ReceiveCall) → PacksFrame p → TakesFrame q → q .given ≡ r → q .frame ≡ through fl (sent p)
       → Known r u (rowOf u fl p q)
   row-known r u fl p q k l g e =
-      let same : q .frame ≡ through fl (frame ord (p .arguments .set) (p .given)) = e ∙ ap (through fl) (pack-sent ord p (k .0) (k .1)) in
-      let there : receive ord (q .given) (q .frame) ≡ receive ord r (through fl (frame ord (p .arguments .set) (p .given))) = ap₂ (receive ord) g same in
+      let same : q .frame ≡ arrived ord (p .arguments .set) (p .given) fl = e ∙ ap (through fl) (pack-sent ord p (k .0) (k .1)) in
+      let there : receive ord (q .given) (q .frame) ≡ receive ord r (arrived ord (p .arguments .set) (p .given) fl) = ap₂ (receive ord) g same in
       let answer = receive-answer ord q (l .0) ∙ ap (λ (y : Received). y .answer) there in
       record {
         may-send = pack-sendable ord p (k .0) (k .1);

@@ -9,7 +9,7 @@ use Prim.Native.Nat.{ℕ, _≤_, _<_}
 use lib.Dec.{T, eqb, lit<}
 use Rattle.bits.specs.Bits.{_⊻_, ones, cut}
 use Rattle.bits.proofs.Every.{and-left, and-right}
-use Rattle.order.specs.Order.{Order, placeOf, logicalBit, through}
+use Rattle.order.specs.Order.{Order, placeOf, logicalBit}
 use Rattle.order.proofs.Frames.{sent-bit, received-bit}
 use Rattle.order.proofs.Refusals.{packed-taken, through-taken}
 use Rattle.sets.specs.Sets.{indicesFit, voicingFits, sendable}
@@ -22,7 +22,7 @@ use Rattle.sets.specs.declared.ParameterSet.{ParameterSet}
 use Rattle.sets.specs.declared.ParameterSet.the-variants.{Unvoiced, Voiced}
 use Rattle.sets.proofs.Ranges.{voicing-ranges}
 use Rattle.frame.proofs.Repaired.{seen}
-use Rattle.frame.proofs.Ordered.{packed-returns, correctable-returns, double-erased, voiced-returns}
+use Rattle.frame.proofs.Ordered.{arrived, packed-returns, correctable-returns, double-erased, voiced-returns}
 use Rattle.records.specs.Records.{valid}
 use Rattle.results.specs.Steps.{accepted, repeated, step}
 use Rattle.receiver.specs.Receiving.{receive}
@@ -52,34 +52,31 @@ module _ (ord : List ℕ) (o : Order ord) (r : Record) (ok : T (valid r)) (sync 
       ∙ ap₂ (step r) (sent-bit ord o (logicalOf set sync) 53 (lit< tt) ∙ sync-bit set sync) (packed-returns ord o set sync t)
 
   module _ (fl : ℕ → Bool) where
-    -- the frame that comes, and the sync bit in it
-    abbrev pub arrives : ParameterSet → List ℕ
-    arrives set = through fl (frame ord set sync)
-
+    -- the sync bit in the frame that arrives
     abbrev pub syncArrived : Bool
     syncArrived = sync ⊻ fl (placeOf ord 53)
 
     -- a packed frame is never refused, whatever a channel does to it
-    pub arrived-taken : (set : ParameterSet) → receive ord r (arrives set) ≡ step r syncArrived (read (logicalBit ord (arrives set)))
+    pub arrived-taken : (set : ParameterSet) → receive ord r (arrived ord set sync fl) ≡ step r syncArrived (read (logicalBit ord (arrived ord set sync fl)))
     arrived-taken set =
-        receive-taken ord r (arrives set)
-        (not-refused r (arrives set) (through-taken fl (frame ord set sync) (packed-taken ord (logicalOf set sync))) ok)
-        ∙ ap (λ (b : Bool). step r b (read (logicalBit ord (arrives set))))
+        receive-taken ord r (arrived ord set sync fl)
+        (not-refused r (arrived ord set sync fl) (through-taken fl (frame ord set sync) (packed-taken ord (logicalOf set sync))) ok)
+        ∙ ap (λ (b : Bool). step r b (read (logicalBit ord (arrived ord set sync fl))))
         (received-bit ord o (logicalOf set sync) fl 53 (lit< tt) ∙ ap (λ (b : Bool). b ⊻ fl (placeOf ord 53)) (sync-bit set sync))
 
     -- a frame that document 01 calls light is accepted with L1, G2 and G1 as sent, and every flip counted
     pub correctable-accepted : (x : Indices) → T (sendable (Unvoiced x)) → Correctable (logicalFlips ord fl)
-        → receive ord r (arrives (Unvoiced x)) ≡ accepted r syncArrived (Unvoiced (seen x sync (logicalFlips ord fl))) (protectedFlips (logicalFlips ord fl))
+        → receive ord r (arrived ord (Unvoiced x) sync fl) ≡ accepted r syncArrived (Unvoiced (seen x sync (logicalFlips ord fl))) (protectedFlips (logicalFlips ord fl))
     correctable-accepted x t k = arrived-taken (Unvoiced x) ∙ ap (step r syncArrived) (correctable-returns ord o x sync fl t k)
 
     -- sent unvoiced, exactly two flips in word A and at most one in the pitch code: a repeat
     pub double-repeated : (x : Indices) → ones (cut (logicalFlips ord fl) 0 8) ≡ 2 → ones (cut (logicalFlips ord fl) 28 7) ≤ 1
-        → receive ord r (arrives (Unvoiced x)) ≡ repeated r syncArrived
+        → receive ord r (arrived ord (Unvoiced x) sync fl) ≡ repeated r syncArrived
     double-repeated x a p = arrived-taken (Unvoiced x) ∙ ap (step r syncArrived) (double-erased ord o x sync fl a p)
 
     -- sent voiced, at most one flip in the pitch code: the result is voiced, or a repeat
     pub voiced-kept : (x : Indices) (v : Voicing) → T (sendable (Voiced x v)) → ones (cut (logicalFlips ord fl) 28 7) ≤ 1
-        → let result = resultIn (receive ord r (arrives (Voiced x v)) .answer) in (result .kind ≡ kind.Voiced) ⊎ (result .kind ≡ kind.Repeat)
+        → let result = resultIn (receive ord r (arrived ord (Voiced x v) sync fl) .answer) in (result .kind ≡ kind.Voiced) ⊎ (result .kind ≡ kind.Repeat)
     voiced-kept x v t p =
         subst⁻¹ (λ (y : Received). (resultIn (y .answer) .kind ≡ kind.Voiced) ⊎ (resultIn (y .answer) .kind ≡ kind.Repeat)) (arrived-taken (Voiced x v))
-        (step-kind r syncArrived (read (logicalBit ord (arrives (Voiced x v)))) (voiced-returns ord o x v sync fl (sendable-pitch x v t) p))
+        (step-kind r syncArrived (read (logicalBit ord (arrived ord (Voiced x v) sync fl))) (voiced-returns ord o x v sync fl (sendable-pitch x v t) p))
