@@ -4,8 +4,9 @@ use mathlib.Core.Path.{_≡_}
 use mathlib.Core.Logic.{_⊎_}
 use mathlib.Core.Bool.{Bool}
 use mathlib.Core.List.{List}
-use Rattle.bits.specs.Bits.{ones, cut}
+use Rattle.bits.specs.Bits.{ones}
 use Rattle.sets.specs.Sets.{indicesIn}
+use Rattle.reading.specs.Reads.{pitchBits, wordA}
 use Rattle.frame.specs.Damage.{logicalFlips, Correctable, protectedFlips, Within}
 use Rattle.sets.specs.declared.ParameterSet.{ParameterSet}
 use Rattle.results.specs.Steps.{kindOf}
@@ -17,10 +18,10 @@ use Rattle.calls.specs.Observed.{PackCall, ReceiveCall}
 module _ (ord : List ℕ) (set : ParameterSet) (flips : ℕ → Bool) where
   -- the flips in its pitch code, and in its eight-bit word
   abbrev pub pitchFlips : ℕ
-  pitchFlips = ones (cut (logicalFlips ord flips) 28 7)
+  pitchFlips = ones (pitchBits (logicalFlips ord flips))
 
   abbrev pub eightBitFlips : ℕ
-  eightBitFlips = ones (cut (logicalFlips ord flips) 0 8)
+  eightBitFlips = ones (wordA (logicalFlips ord flips))
 
   -- document 01's light frame: sent unvoiced, at most one flip in its pitch code and in each of its four words
   pub record CorrectableFrame : Type 0 where

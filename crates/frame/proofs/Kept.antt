@@ -4,7 +4,7 @@ use mathlib.Core.Bool.{Bool, true, false}
 use Prim.Native.Nat.{ℕ, _≤_, _<_}
 use mathlib.Core.Path.{refl}
 use lib.Dec.{T}
-use Rattle.bits.specs.Bits.{ones, cut}
+use Rattle.bits.specs.Bits.{ones}
 use Rattle.pitch.specs.Pitch.{classOf}
 use Rattle.pitch.specs.declared.PitchClass.{PitchClass}
 use Rattle.pitch.specs.declared.PitchClass.the-variants as class
@@ -30,9 +30,9 @@ by-class g class.Erased t = tt
 by-class g (class.Voiced i) t = tt
 
 -- a voiced frame with at most one flip in its pitch code is read voiced or erased
-pub voiced-read : (x : Indices) (v : Voicing) (sync : Bool) (fl : ℕ → Bool) → v .pitch < 99 → ones (cut fl 28 7) ≤ 1
+pub voiced-read : (x : Indices) (v : Voicing) (sync : Bool) (fl : ℕ → Bool) → v .pitch < 99 → ones (pitchBits fl) ≤ 1
     → T (voicedOrErased (read (damaged (logicalOf (Voiced x v) sync) fl)))
 unfolding words others voicedWords logical read
 voiced-read x v sync fl h f =
     let g : ℕ → Bool = damaged (logicalOf (Voiced x v) sync) fl in
-    by-class g (classOf (pitchBits g)) (voiced-keeps (v .pitch) h (cut fl 28 7) refl f)
+    by-class g (classOf (pitchBits g)) (voiced-keeps (v .pitch) h (pitchBits fl) refl f)

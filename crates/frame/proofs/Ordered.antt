@@ -6,12 +6,12 @@ use mathlib.Core.List.{List}
 use Prim.Native.Nat.{ℕ, _≤_, _<_}
 use native.Mathlib.Omega.{arith}
 use lib.Dec.{T}
-use Rattle.bits.specs.Bits.{ones, cut}
+use Rattle.bits.specs.Bits.{ones}
 use Rattle.order.specs.Order.{Order, logicalBit, through}
 use Rattle.order.proofs.Frames.{sent-bit, received-bit}
 use Rattle.sets.specs.Sets.{sendable}
 use Rattle.frame.specs.Layout.{logicalOf, frame}
-use Rattle.reading.specs.Reads.{read}
+use Rattle.reading.specs.Reads.{pitchBits, wordA, read}
 use Rattle.frame.specs.Damage.{damaged, logicalFlips, Correctable, protectedFlips}
 use Rattle.sets.specs.declared.Indices.{Indices}
 use Rattle.sets.specs.declared.Voicing.{Voicing}
@@ -51,12 +51,12 @@ module _ (ord : List ℕ) (o : Order ord) where
     correctable-returns t k = received-read (Unvoiced x) sync fl ∙ correctable-read x sync (logicalFlips ord fl) k (index-ranges x t)
 
     -- exactly two flips in word A, and at most one in the pitch code, erase a frame sent unvoiced
-    pub double-erased : ones (cut (logicalFlips ord fl) 0 8) ≡ 2 → ones (cut (logicalFlips ord fl) 28 7) ≤ 1
+    pub double-erased : ones (wordA (logicalFlips ord fl)) ≡ 2 → ones (pitchBits (logicalFlips ord fl)) ≤ 1
         → read (logicalBit ord (arrived ord (Unvoiced x) sync fl)) ≡ Erased
     double-erased a p = received-read (Unvoiced x) sync fl ∙ double-read x sync (logicalFlips ord fl) a p
 
   -- at most one flip in its pitch code leaves a frame sent voiced voiced, or erases it
-  pub voiced-returns : (x : Indices) (v : Voicing) (sync : Bool) (fl : ℕ → Bool) → v .pitch < 99 → ones (cut (logicalFlips ord fl) 28 7) ≤ 1
+  pub voiced-returns : (x : Indices) (v : Voicing) (sync : Bool) (fl : ℕ → Bool) → v .pitch < 99 → ones (pitchBits (logicalFlips ord fl)) ≤ 1
       → T (voicedOrErased (read (logicalBit ord (arrived ord (Voiced x v) sync fl))))
   voiced-returns x v sync fl h p =
       subst⁻¹ (λ (r : Reading). T (voicedOrErased r)) (received-read (Voiced x v) sync fl) (voiced-read x v sync (logicalFlips ord fl) h p)

@@ -16,7 +16,7 @@ use Rattle.hamming.specs.declared.Decoded.{Decoded}
 use Rattle.hamming.specs.declared.Decoded.the-variants as word
 use Rattle.hamming.proofs.Repairs.{repair, double-erases}
 use Rattle.frame.specs.Layout.{dataA, dataB, dataC, dataD, words, others, unvoicedWords, logical, logicalOf}
-use Rattle.reading.specs.Reads.{pitchBits, pitchRepaired, fromWords, byClass, read}
+use Rattle.reading.specs.Reads.{pitchBits, wordA, wordB, wordC, wordD, pitchRepaired, fromWords, byClass, read}
 use Rattle.frame.specs.Damage.{damaged, Correctable, protectedFlips}
 use Rattle.sets.specs.declared.Indices.{Indices}
 use Rattle.sets.specs.declared.ParameterSet.the-variants.{Unvoiced}
@@ -43,35 +43,35 @@ module _ (x : Indices) (sync : Bool) (fl : ℕ → Bool) where
   abbrev pub seen : Indices
   seen = record { l1 = x .l1; l2 = value (cut got 35 6); l3 = value (cut got 41 6); l4 = value (cut got 47 6); g2 = x .g2; g1 = x .g1 }
 
-  class-stays : ones (cut fl 28 7) ≤ 1 → classOf (pitchBits got) ≡ class.Unvoiced
+  class-stays : ones (pitchBits fl) ≤ 1 → classOf (pitchBits got) ≡ class.Unvoiced
   unfolding words others unvoicedWords logical
-  class-stays h = unvoiced-stays (cut fl 28 7) refl h
+  class-stays h = unvoiced-stays (pitchBits fl) refl h
 
   module _ (k : Correctable fl) where
-    word-a : decode 8 (cut got 0 8) ≡ word.Read (value (dataA x)) (ones (cut fl 0 8))
+    word-a : decode 8 (wordA got) ≡ word.Read (value (dataA x)) (ones (wordA fl))
     unfolding words others unvoicedWords logical
-    word-a = repair 8 (lit≤ tt) (lit≤ tt) (dataA x) (cut fl 0 8) refl refl (k .a)
+    word-a = repair 8 (lit≤ tt) (lit≤ tt) (dataA x) (wordA fl) refl refl (k .a)
 
-    word-b : decode 6 (cut got 8 6) ≡ word.Read (value (dataB x)) (ones (cut fl 8 6))
+    word-b : decode 6 (wordB got) ≡ word.Read (value (dataB x)) (ones (wordB fl))
     unfolding words others unvoicedWords logical
-    word-b = repair 6 (lit≤ tt) (lit≤ tt) (dataB x) (cut fl 8 6) refl refl (k .b)
+    word-b = repair 6 (lit≤ tt) (lit≤ tt) (dataB x) (wordB fl) refl refl (k .b)
 
-    word-c : decode 7 (cut got 14 7) ≡ word.Read (value (dataC x)) (ones (cut fl 14 7))
+    word-c : decode 7 (wordC got) ≡ word.Read (value (dataC x)) (ones (wordC fl))
     unfolding words others unvoicedWords logical
-    word-c = repair 7 (lit≤ tt) (lit≤ tt) (dataC x) (cut fl 14 7) refl refl (k .c)
+    word-c = repair 7 (lit≤ tt) (lit≤ tt) (dataC x) (wordC fl) refl refl (k .c)
 
-    word-d : decode 7 (cut got 21 7) ≡ word.Read (value (dataD x)) (ones (cut fl 21 7))
+    word-d : decode 7 (wordD got) ≡ word.Read (value (dataD x)) (ones (wordD fl))
     unfolding words others unvoicedWords logical
-    word-d = repair 7 (lit≤ tt) (lit≤ tt) (dataD x) (cut fl 21 7) refl refl (k .d)
+    word-d = repair 7 (lit≤ tt) (lit≤ tt) (dataD x) (wordD fl) refl refl (k .d)
 
-    pitch-count : pitchRepaired (pitchBits got) ≡ ones (cut fl 28 7)
+    pitch-count : pitchRepaired (pitchBits got) ≡ ones (pitchBits fl)
     unfolding words others unvoicedWords logical
-    pitch-count = ap (λ (n : ℕ). cond (eqb n 1) 1 0) (unvoiced-ones (cut fl 28 7) refl (k .pitch)) ∙ single (ones (cut fl 28 7)) (k .pitch)
+    pitch-count = ap (λ (n : ℕ). cond (eqb n 1) 1 0) (unvoiced-ones (pitchBits fl) refl (k .pitch)) ∙ single (ones (pitchBits fl)) (k .pitch)
 
-    flips-are : pitchRepaired (pitchBits got) + ones (cut fl 0 8) + ones (cut fl 8 6) + ones (cut fl 14 7) + ones (cut fl 21 7) ≡ protectedFlips fl
+    flips-are : pitchRepaired (pitchBits got) + ones (wordA fl) + ones (wordB fl) + ones (wordC fl) + ones (wordD fl) ≡ protectedFlips fl
     flips-are =
-        ap (λ (n : ℕ). n + ones (cut fl 0 8) + ones (cut fl 8 6) + ones (cut fl 14 7) + ones (cut fl 21 7)) pitch-count
-        ∙ sym (ones-five (cut fl 0 8) (cut fl 8 6) (cut fl 14 7) (cut fl 21 7) (cut fl 28 7))
+        ap (λ (n : ℕ). n + ones (wordA fl) + ones (wordB fl) + ones (wordC fl) + ones (wordD fl)) pitch-count
+        ∙ sym (ones-five (wordA fl) (wordB fl) (wordC fl) (wordD fl) (pitchBits fl))
 
     pub correctable-read : IndexRanges x → read got ≡ Accepted (Unvoiced seen) (protectedFlips fl)
     unfolding read
@@ -88,9 +88,9 @@ module _ (x : Indices) (sync : Bool) (fl : ℕ → Bool) where
         })) (flips-are i))
 
   -- exactly two flips in word A under an unvoiced pitch code: erased
-  pub double-read : ones (cut fl 0 8) ≡ 2 → ones (cut fl 28 7) ≤ 1 → read got ≡ Erased
+  pub double-read : ones (wordA fl) ≡ 2 → ones (pitchBits fl) ≤ 1 → read got ≡ Erased
   unfolding words others unvoicedWords logical read
   double-read ha hp =
       ap (byClass got) (class-stays hp)
-      ∙ ap (λ (r : Decoded). fromWords got r (decode 6 (cut got 8 6)) (decode 7 (cut got 14 7)) (decode 7 (cut got 21 7)))
-      (double-erases (dataA x) (cut fl 0 8) refl refl ha)
+      ∙ ap (λ (r : Decoded). fromWords got r (decode 6 (wordB got)) (decode 7 (wordC got)) (decode 7 (wordD got)))
+      (double-erases (dataA x) (wordA fl) refl refl ha)

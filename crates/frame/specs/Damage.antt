@@ -5,6 +5,7 @@ use mathlib.Core.Bool.{Bool, true}
 use mathlib.Core.List.{List}
 use Rattle.bits.specs.Bits.{_⊻_, ones, cut}
 use Rattle.order.specs.Order.{placeOf}
+use Rattle.reading.specs.Reads.{pitchBits, wordA, wordB, wordC, wordD}
 
 -- logical bits after flips
 abbrev pub damaged : (ℕ → Bool) → (ℕ → Bool) → ℕ → Bool
@@ -16,11 +17,11 @@ logicalFlips ord fl j = fl (placeOf ord j)
 
 -- flips that repair undoes, document 01's "light": at most one in the pitch code and in each word
 pub record Correctable (fl : ℕ → Bool) : Type 0 where
-  pub a : ones (cut fl 0 8) ≤ 1
-  pub b : ones (cut fl 8 6) ≤ 1
-  pub c : ones (cut fl 14 7) ≤ 1
-  pub d : ones (cut fl 21 7) ≤ 1
-  pub pitch : ones (cut fl 28 7) ≤ 1
+  pub a : ones (wordA fl) ≤ 1
+  pub b : ones (wordB fl) ≤ 1
+  pub c : ones (wordC fl) ≤ 1
+  pub d : ones (wordD fl) ≤ 1
+  pub pitch : ones (pitchBits fl) ≤ 1
 
 -- how many flips are in the four words and the pitch code
 abbrev pub protectedFlips : (ℕ → Bool) → ℕ

@@ -20,6 +20,19 @@ use Rattle.reading.specs.declared.Reading.the-variants.{Accepted, Erased
 abbrev pub pitchBits : (ℕ → Bool) → List Bool
 pitchBits g = cut g 28 7
 
+-- the bits of the four words of document 01's "The four words": of each the data, then the parity places
+abbrev pub wordA : (ℕ → Bool) → List Bool
+wordA g = cut g 0 8
+
+abbrev pub wordB : (ℕ → Bool) → List Bool
+wordB g = cut g 8 6
+
+abbrev pub wordC : (ℕ → Bool) → List Bool
+wordC g = cut g 14 7
+
+abbrev pub wordD : (ℕ → Bool) → List Bool
+wordD g = cut g 21 7
+
 -- the six indices from the data of the four words, u0 most significant, and the other bits
 abbrev pub indicesOf : (ℕ → Bool) → ℕ → ℕ → ℕ → ℕ → Indices
 indicesOf g a b c d = record {
@@ -49,7 +62,7 @@ fromWords g (word.Read a i) (word.Read b j) (word.Read c k) (word.Read d l) = Ac
 
 -- by the class of the pitch code: only under an unvoiced one are the words checked, A, then B, C and D; a voiced frame is read as it stands
 abbrev pub byClass : (ℕ → Bool) → PitchClass → Reading
-byClass g class.Unvoiced = fromWords g (decode 8 (cut g 0 8)) (decode 6 (cut g 8 6)) (decode 7 (cut g 14 7)) (decode 7 (cut g 21 7))
+byClass g class.Unvoiced = fromWords g (decode 8 (wordA g)) (decode 6 (wordB g)) (decode 7 (wordC g)) (decode 7 (wordD g))
 byClass g class.Erased = Erased
 byClass g (class.Voiced i) = Accepted (Voiced (indicesOf g (value (cut g 0 4)) (value (cut g 8 3)) (value (cut g 14 4)) (value (cut g 21 4))) (voicingOf g i)) 0
 

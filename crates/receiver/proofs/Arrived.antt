@@ -7,14 +7,14 @@ use mathlib.Core.Bool.{Bool, not, _&&_}
 use mathlib.Core.List.{List}
 use Prim.Native.Nat.{ℕ, _≤_, _<_}
 use lib.Dec.{T, eqb, lit<}
-use Rattle.bits.specs.Bits.{_⊻_, ones, cut}
+use Rattle.bits.specs.Bits.{_⊻_, ones}
 use Rattle.bits.proofs.Every.{and-left, and-right}
 use Rattle.order.specs.Order.{Order, placeOf, logicalBit}
 use Rattle.order.proofs.Frames.{sent-bit, received-bit}
 use Rattle.order.proofs.Refusals.{packed-taken, through-taken}
 use Rattle.sets.specs.Sets.{indicesFit, voicingFits, sendable}
 use Rattle.frame.specs.Layout.{words, others, unvoicedWords, voicedWords, logical, logicalOf, frame}
-use Rattle.reading.specs.Reads.{read}
+use Rattle.reading.specs.Reads.{pitchBits, wordA, read}
 use Rattle.frame.specs.Damage.{logicalFlips, Correctable, protectedFlips}
 use Rattle.sets.specs.declared.Indices.{Indices}
 use Rattle.sets.specs.declared.Voicing.{Voicing}
@@ -70,12 +70,12 @@ module _ (ord : List ℕ) (o : Order ord) (r : Record) (ok : T (valid r)) (sync 
     correctable-accepted x t k = arrived-taken (Unvoiced x) ∙ ap (step r syncArrived) (correctable-returns ord o x sync fl t k)
 
     -- sent unvoiced, exactly two flips in word A and at most one in the pitch code: a repeat
-    pub double-repeated : (x : Indices) → ones (cut (logicalFlips ord fl) 0 8) ≡ 2 → ones (cut (logicalFlips ord fl) 28 7) ≤ 1
+    pub double-repeated : (x : Indices) → ones (wordA (logicalFlips ord fl)) ≡ 2 → ones (pitchBits (logicalFlips ord fl)) ≤ 1
         → receive ord r (arrived ord (Unvoiced x) sync fl) ≡ repeated r syncArrived
     double-repeated x a p = arrived-taken (Unvoiced x) ∙ ap (step r syncArrived) (double-erased ord o x sync fl a p)
 
     -- sent voiced, at most one flip in the pitch code: the result is voiced, or a repeat
-    pub voiced-kept : (x : Indices) (v : Voicing) → T (sendable (Voiced x v)) → ones (cut (logicalFlips ord fl) 28 7) ≤ 1
+    pub voiced-kept : (x : Indices) (v : Voicing) → T (sendable (Voiced x v)) → ones (pitchBits (logicalFlips ord fl)) ≤ 1
         → let result = resultIn (receive ord r (arrived ord (Voiced x v) sync fl) .answer) in (result .kind ≡ kind.Voiced) ⊎ (result .kind ≡ kind.Repeat)
     voiced-kept x v t p =
         subst⁻¹ (λ (y : Received). (resultIn (y .answer) .kind ≡ kind.Voiced) ⊎ (resultIn (y .answer) .kind ≡ kind.Repeat)) (arrived-taken (Voiced x v))
