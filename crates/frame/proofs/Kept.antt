@@ -11,12 +11,12 @@ use Rattle.pitch.specs.declared.PitchClass.the-variants as class
 use Rattle.pitch.proofs.Damage.{notUnvoiced, voiced-keeps}
 use Rattle.frame.specs.Layout.{words, others, voicedWords, logical, logicalOf}
 use Rattle.reading.specs.Reads.{pitchBits, byClass, read}
-use Rattle.frame.specs.Damage.{damaged}
 use Rattle.sets.specs.declared.Indices.{Indices}
 use Rattle.sets.specs.declared.Voicing.{Voicing}
 use Rattle.sets.specs.declared.ParameterSet.the-variants.{Unvoiced, Voiced}
 use Rattle.reading.specs.declared.Reading.{Reading}
 use Rattle.reading.specs.declared.Reading.the-variants.{Accepted, Erased}
+use Rattle.frame.proofs.Repaired.{damaged}
 
 -- read voiced, or erased
 abbrev pub voicedOrErased : Reading → Bool

@@ -12,7 +12,7 @@ use Rattle.order.proofs.Frames.{sent-bit, received-bit}
 use Rattle.sets.specs.Sets.{sendable}
 use Rattle.frame.specs.Layout.{logicalOf, frame}
 use Rattle.reading.specs.Reads.{pitchBits, wordA, read}
-use Rattle.frame.specs.Damage.{damaged, logicalFlips, Correctable, protectedFlips}
+use Rattle.frame.specs.Damage.{logicalFlips, Correctable, protectedFlips}
 use Rattle.sets.specs.declared.Indices.{Indices}
 use Rattle.sets.specs.declared.Voicing.{Voicing}
 use Rattle.sets.specs.declared.ParameterSet.{ParameterSet}
@@ -20,7 +20,7 @@ use Rattle.sets.specs.declared.ParameterSet.the-variants.{Unvoiced, Voiced}
 use Rattle.reading.specs.declared.Reading.{Reading}
 use Rattle.reading.specs.declared.Reading.the-variants.{Accepted, Erased}
 use Rattle.sets.proofs.Ranges.{index-ranges, sendable-fits}
-use Rattle.frame.proofs.Repaired.{seen, correctable-read, double-read}
+use Rattle.frame.proofs.Repaired.{damaged, seen, correctable-read, double-read}
 use Rattle.frame.proofs.Kept.{voicedOrErased, voiced-read}
 use Rattle.frame.proofs.Returned.{read-back}
 use Rattle.reading.proofs.Extent.{read-ext}

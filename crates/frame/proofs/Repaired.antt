@@ -6,7 +6,7 @@ use mathlib.Core.List.{List, _++_}
 use Prim.Native.Nat.{ℕ, zero, suc, _+_, _≤_}
 use native.Mathlib.Omega.{arith}
 use lib.Dec.{eqb, lit≤}
-use Rattle.bits.specs.Bits.{ones, value, cut}
+use Rattle.bits.specs.Bits.{_⊻_, ones, value, cut}
 use Rattle.bits.proofs.Count.{ones-append}
 use Rattle.pitch.specs.Pitch.{classOf}
 use Rattle.pitch.specs.declared.PitchClass.the-variants as class
@@ -17,12 +17,16 @@ use Rattle.hamming.specs.declared.Decoded.the-variants as word
 use Rattle.hamming.proofs.Repairs.{repair, double-erases}
 use Rattle.frame.specs.Layout.{dataA, dataB, dataC, dataD, words, others, unvoicedWords, logical, logicalOf}
 use Rattle.reading.specs.Reads.{pitchBits, wordA, wordB, wordC, wordD, pitchRepaired, fromWords, byClass, read}
-use Rattle.frame.specs.Damage.{damaged, Correctable, protectedFlips}
+use Rattle.frame.specs.Damage.{Correctable, protectedFlips}
 use Rattle.sets.specs.declared.Indices.{Indices}
 use Rattle.sets.specs.declared.ParameterSet.the-variants.{Unvoiced}
 use Rattle.reading.specs.declared.Reading.the-variants.{Accepted, Erased}
 use Rattle.sets.proofs.Ranges.{IndexRanges}
 use Rattle.frame.proofs.Fields.{l1-back, g2-back, g1-back}
+
+-- logical bits after flips
+abbrev pub damaged : (ℕ → Bool) → (ℕ → Bool) → ℕ → Bool
+damaged g fl j = g j ⊻ fl j
 
 -- a count of at most 1 is 1 or 0
 single : (n : ℕ) → n ≤ 1 → cond (eqb n 1) 1 0 ≡ n

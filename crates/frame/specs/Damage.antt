@@ -3,13 +3,9 @@ use Prim.Native.Nat.{ℕ, _+_, _≤_, _<_}
 use mathlib.Core.Path.{_≡_}
 use mathlib.Core.Bool.{Bool, true}
 use mathlib.Core.List.{List}
-use Rattle.bits.specs.Bits.{_⊻_, ones, cut}
+use Rattle.bits.specs.Bits.{ones, cut}
 use Rattle.order.specs.Order.{placeOf}
 use Rattle.reading.specs.Reads.{pitchBits, wordA, wordB, wordC, wordD}
-
--- logical bits after flips
-abbrev pub damaged : (ℕ → Bool) → (ℕ → Bool) → ℕ → Bool
-damaged g fl j = g j ⊻ fl j
 
 -- the flips of logical bits that a channel's flips of places are, in an order
 abbrev pub logicalFlips : List ℕ → (ℕ → Bool) → ℕ → Bool

@@ -1,3 +1,3 @@
 pub mod Layout
-pub mod Damage
 pub mod Packing
+pub mod Damage
