@@ -66,7 +66,8 @@ module _ (ord : List ℕ) (o : Order ord) (r : Record) (ok : T (valid r)) (sync 
 
     -- a frame that document 01 calls light is accepted with L1, G2 and G1 as sent, and every flip counted
     pub correctable-accepted : (x : Indices) → T (sendable (Unvoiced x)) → Correctable (logicalFlips ord fl)
-        → receive ord r (arrived ord (Unvoiced x) sync fl) ≡ accepted r syncArrived (Unvoiced (seen x sync (logicalFlips ord fl))) (protectedFlips (logicalFlips ord fl))
+        → receive ord r (arrived ord (Unvoiced x) sync fl)
+        ≡ accepted r syncArrived (Unvoiced (seen x sync (logicalFlips ord fl))) (protectedFlips (logicalFlips ord fl))
     correctable-accepted x t k = arrived-taken (Unvoiced x) ∙ ap (step r syncArrived) (correctable-returns ord o x sync fl t k)
 
     -- sent unvoiced, exactly two flips in word A and at most one in the pitch code: a repeat
