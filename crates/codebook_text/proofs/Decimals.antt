@@ -10,7 +10,8 @@ use lib.ListN.{length, length-map}
 use borrow.Author.Tests.{leb-true, le-leb}
 use Rattle.codebook_text.specs.Text.{isDigit, allDigits, valueAfter, digitsValue}
 use Rattle.bits.specs.Lists.{Every}
-use Rattle.codebook_text.specs.Grammar.{decimalValue, digitByte}
+use Rattle.bits.specs.Ascii.{digitByte}
+use Rattle.codebook_text.specs.Grammar.{decimalValue}
 use Rattle.codebook_text.proofs.Digits.{both}
 
 -- the digit of a byte

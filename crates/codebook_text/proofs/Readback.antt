@@ -7,7 +7,8 @@ use lib.Dec.{eqb}
 use lib.ListN.{length, drop, length-map}
 use borrow.Author.Tests.{eq-eqb, eqb-true, not-true}
 use Rattle.codebook_text.specs.Text.{isNegative, unsigned, allDigits, isDigits, digitsValue, isNumber, numberOf}
-use Rattle.codebook_text.specs.Grammar.{Line, Good, decimalValue, digitByte, written, valueOf}
+use Rattle.bits.specs.Ascii.{digitByte}
+use Rattle.codebook_text.specs.Grammar.{Line, Good, decimalValue, written, valueOf}
 use Rattle.codebook_text.proofs.Digits.{both, digits-parts}
 use Rattle.codebook_text.proofs.Decimals.{digitOf, digits-back, digits-small, digits-value-spelt}
 use Rattle.codebook_text.proofs.Spelling.{written-value}

@@ -10,7 +10,8 @@ use lib.ListN.{length}
 use borrow.Author.Tests.{le-leb, ne-eqb}
 use Rattle.codebook_text.specs.Text.{isNegative, unsigned, isDigits, isNumber, numberOf, withSign}
 use Rattle.bits.specs.Lists.{Every}
-use Rattle.codebook_text.specs.Grammar.{Line, Good, decimalValue, digitByte, written, valueOf}
+use Rattle.bits.specs.Ascii.{digitByte}
+use Rattle.codebook_text.specs.Grammar.{Line, Good, decimalValue, written, valueOf}
 use Rattle.codebook_text.proofs.Decimals.{digits-spelt, digits-line, digits-value-spelt, spelt-length}
 
 -- no byte of a line ends it

@@ -6,6 +6,7 @@ use mathlib.Core.Bool.{Bool, true, cond}
 use mathlib.Core.List.{List, [], _∷_, _++_, map}
 use lib.ListN.{length}
 use lib.IntN.{ℤ, pos, negℤ}
+use Rattle.bits.specs.Ascii.{digitByte}
 use Rattle.bits.specs.Lists.{Every}
 
 -- what a line writes: whether it has a minus, and its digits, 0 to 9
@@ -24,10 +25,6 @@ pub record Good (l : Line) : Type 0 where
   pub most : length (l .digits) ≤ 10
   pub decimals : Every (λ d. d ≤ 9) (l .digits)
   pub nonzero : l .minus ≡ true → decimalValue (l .digits) ≡ 0 → ⊥
-
--- the byte of a digit
-abbrev pub digitByte : ℕ → ℕ
-digitByte d = 48 + d
 
 -- the bytes of a line before its end: the minus, then the digits
 unfoldable pub written : Line → List ℕ

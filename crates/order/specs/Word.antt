@@ -1,4 +1,4 @@
--- A helper of the code, no part of document 01: a number's low n bits as a sequence, the most significant first. So it carries a frame's logical bits.
+-- A helper of the code, no part of document 01: a number's low n bits as a sequence, the most significant first. It carries a frame's logical bits.
 use Prim.Native.Nat.{ℕ}
 use mathlib.Core.Bool.{Bool, false}
 use lib.ListN.{getD}

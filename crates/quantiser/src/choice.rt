@@ -10,9 +10,6 @@ ghost use lib.IntN.{pos, _+ℤ_};
 ghost use Rattle.gain.specs.Levels.{apart};
 ghost use Rattle.quantiser.specs.Choice.{levelInRange, chosenG2, steady, chosenG1, chooseAnswer};
 
-// The refusal of a parameter that is out of its range.
-const OUT_OF_RANGE: u8 = 5;
-
 // Added to a level in range and to the levels that it is compared with, it leaves none below 0.
 const RAISE: u32 = 18600;
 
@@ -27,7 +24,7 @@ pub fn choose(first: i32, second: i32, q: u8) -> CodesAnswer
             g1: first_code(first, g2, q),
         }
     } else {
-        CodesAnswer::Refused(OUT_OF_RANGE)
+        CodesAnswer::Refused(5)
     }
 }
 

@@ -2,7 +2,7 @@
 -- accepted or repeated as the laws of reading say.
 -- Assumes nothing.
 use mathlib.Core.Path.{_≡_, refl, ap, ap₂, _∙_, subst⁻¹}
-use mathlib.Core.Logic.{_⊎_}
+use mathlib.Core.Logic.{_⊎_, inl, inr}
 use mathlib.Core.Bool.{Bool, not, _&&_}
 use mathlib.Core.List.{List}
 use Prim.Native.Nat.{ℕ, _≤_, _<_}
@@ -14,6 +14,8 @@ use Rattle.order.proofs.Frames.{sent-bit, received-bit}
 use Rattle.order.proofs.Refusals.{packed-taken, through-taken}
 use Rattle.sets.specs.Sets.{indicesFit, voicingFits, sendable}
 use Rattle.frame.specs.Layout.{words, others, unvoicedWords, voicedWords, logical, logicalOf, frame}
+use Rattle.reading.specs.declared.Reading.{Reading}
+use Rattle.reading.specs.declared.Reading.the-variants.{Accepted, Erased}
 use Rattle.reading.specs.Reads.{pitchBits, wordA, read}
 use Rattle.frame.specs.Damage.{logicalFlips, Correctable, protectedFlips}
 use Rattle.sets.specs.declared.Indices.{Indices}
@@ -21,6 +23,7 @@ use Rattle.sets.specs.declared.Voicing.{Voicing}
 use Rattle.sets.specs.declared.ParameterSet.{ParameterSet}
 use Rattle.sets.specs.declared.ParameterSet.the-variants.{Unvoiced, Voiced}
 use Rattle.sets.proofs.Ranges.{voicing-ranges}
+use Rattle.frame.proofs.Kept.{voicedOrErased}
 use Rattle.frame.proofs.Repaired.{seen}
 use Rattle.frame.proofs.Ordered.{arrived, packed-returns, correctable-returns, double-erased, voiced-returns}
 use Rattle.records.specs.Records.{valid}
@@ -30,8 +33,15 @@ use Rattle.results.specs.declared.Kind.the-variants as kind
 use Rattle.records.specs.declared.Record.{Record}
 use Rattle.results.specs.declared.Received.{Received}
 use Rattle.results.proofs.Yields.{resultIn}
-use Rattle.receiver.proofs.Answers.{step-kind}
 use Rattle.receiver.proofs.Taken.{not-refused, receive-taken}
+
+-- what is not read unvoiced has the kind voiced or repeat
+step-kind : (r : Record) (sync : Bool) (x : Reading) → T (voicedOrErased x)
+    → (resultIn (step r sync x .answer) .kind ≡ kind.Voiced) ⊎ (resultIn (step r sync x .answer) .kind ≡ kind.Repeat)
+unfolding accepted repeated
+step-kind r sync (Accepted (Unvoiced x) k) t = absurd t
+step-kind r sync (Accepted (Voiced x v) k) t = inl refl
+step-kind r sync Erased t = inr refl
 
 -- the pitch index of a voiced set that a sender takes
 sendable-pitch : (x : Indices) (v : Voicing) → T (sendable (Voiced x v)) → v .pitch < 99

@@ -1,5 +1,4 @@
 pub mod Taken
-pub mod Answers
 pub mod Sync
 pub mod Arrived
 pub mod Validity

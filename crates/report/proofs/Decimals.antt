@@ -8,7 +8,8 @@ use native.Mathlib.Omega.{arith}
 use lib.Dec.{ltb}
 use lib.ListN.{length, length-append}
 use borrow.Author.Tests.{lt-ltb, le-ltb, ltb-true, ltb-false}
-use Rattle.report.specs.Text.{glyph, digits, decimal}
+use Rattle.bits.specs.Ascii.{digitByte}
+use Rattle.report.specs.Text.{digits, decimal}
 
 -- a bound above the number changes nothing
 digits-enough : (j k n : ℕ) → n < j → n < k → digits j n ≡ digits k n
@@ -18,33 +19,33 @@ digits-enough (suc j) zero n h l = absurd (omega arith)
 digits-enough (suc j) (suc k) n h l = go (ltb n 10) refl (λ m. digits-enough j k (n / 10) (omega arith) (omega arith))
   where
     go : (t : Bool) → ltb n 10 ≡ t → (10 ≤ n → digits j (n / 10) ≡ digits k (n / 10))
-        → cond t (glyph n ∷ []) (digits j (n / 10) ++ (glyph (n % 10) ∷ [])) ≡ cond t (glyph n ∷ []) (digits k (n / 10) ++ (glyph (n % 10) ∷ []))
+        → cond t (digitByte n ∷ []) (digits j (n / 10) ++ (digitByte (n % 10) ∷ [])) ≡ cond t (digitByte n ∷ []) (digits k (n / 10) ++ (digitByte (n % 10) ∷ []))
     go true e f = refl
-    go false e f = ap (λ (l : List ℕ). l ++ (glyph (n % 10) ∷ [])) (f (ltb-false n 10 e))
+    go false e f = ap (λ (l : List ℕ). l ++ (digitByte (n % 10) ∷ [])) (f (ltb-false n 10 e))
 
 -- one digit
-pub decimal-one : (n : ℕ) → n < 10 → decimal n ≡ glyph n ∷ []
+pub decimal-one : (n : ℕ) → n < 10 → decimal n ≡ digitByte n ∷ []
 unfolding decimal digits
-decimal-one n h = ap (λ (t : Bool). cond t (glyph n ∷ []) (digits n (n / 10) ++ (glyph (n % 10) ∷ []))) (lt-ltb n 10 h)
+decimal-one n h = ap (λ (t : Bool). cond t (digitByte n ∷ []) (digits n (n / 10) ++ (digitByte (n % 10) ∷ []))) (lt-ltb n 10 h)
 
 -- the last digit of more
-decimal-more : (n : ℕ) → 10 ≤ n → decimal n ≡ decimal (n / 10) ++ (glyph (n % 10) ∷ [])
+decimal-more : (n : ℕ) → 10 ≤ n → decimal n ≡ decimal (n / 10) ++ (digitByte (n % 10) ∷ [])
 unfolding decimal digits
 decimal-more n h =
-    ap (λ (t : Bool). cond t (glyph n ∷ []) (digits n (n / 10) ++ (glyph (n % 10) ∷ []))) (le-ltb n 10 h)
-    ∙ ap (λ (l : List ℕ). l ++ (glyph (n % 10) ∷ [])) (digits-enough n (suc (n / 10)) (n / 10) (omega arith) (omega arith))
+    ap (λ (t : Bool). cond t (digitByte n ∷ []) (digits n (n / 10) ++ (digitByte (n % 10) ∷ []))) (le-ltb n 10 h)
+    ∙ ap (λ (l : List ℕ). l ++ (digitByte (n % 10) ∷ [])) (digits-enough n (suc (n / 10)) (n / 10) (omega arith) (omega arith))
 
 -- two digits
-pub decimal-two : (n : ℕ) → 10 ≤ n → n < 100 → decimal n ≡ glyph (n / 10) ∷ glyph (n % 10) ∷ []
-decimal-two n h l = decimal-more n h ∙ ap (λ (d : List ℕ). d ++ (glyph (n % 10) ∷ [])) (decimal-one (n / 10) (omega arith))
+pub decimal-two : (n : ℕ) → 10 ≤ n → n < 100 → decimal n ≡ digitByte (n / 10) ∷ digitByte (n % 10) ∷ []
+decimal-two n h l = decimal-more n h ∙ ap (λ (d : List ℕ). d ++ (digitByte (n % 10) ∷ [])) (decimal-one (n / 10) (omega arith))
 
 -- the last two digits of more
-pub decimal-pairs : (n : ℕ) → 100 ≤ n → decimal n ≡ decimal (n / 100) ++ (glyph (n / 10 % 10) ∷ glyph (n % 10) ∷ [])
+pub decimal-pairs : (n : ℕ) → 100 ≤ n → decimal n ≡ decimal (n / 100) ++ (digitByte (n / 10 % 10) ∷ digitByte (n % 10) ∷ [])
 decimal-pairs n h =
     let e : n / 10 / 10 ≡ n / 100 = omega arith in
     decimal-more n (omega arith)
-    ∙ ap (λ (d : List ℕ). d ++ (glyph (n % 10) ∷ [])) (decimal-more (n / 10) (omega arith) ∙ ap (λ (k : ℕ). decimal k ++ (glyph (n / 10 % 10) ∷ [])) e)
-    ∙ append-assoc (decimal (n / 100)) (glyph (n / 10 % 10) ∷ []) (glyph (n % 10) ∷ [])
+    ∙ ap (λ (d : List ℕ). d ++ (digitByte (n % 10) ∷ [])) (decimal-more (n / 10) (omega arith) ∙ ap (λ (k : ℕ). decimal k ++ (digitByte (n / 10 % 10) ∷ [])) e)
+    ∙ append-assoc (decimal (n / 100)) (digitByte (n / 10 % 10) ∷ []) (digitByte (n % 10) ∷ [])
 
 -- a number below a power of ten has at most so many digits
 pub decimal-length : (k n : ℕ) → n < 10 ^ suc k → length (decimal n) ≤ suc k
@@ -55,4 +56,4 @@ decimal-length (suc k) n h =
   where
     go : (t : Bool) → ltb n 10 ≡ t → length (decimal (n / 10)) ≤ suc k → length (decimal n) ≤ suc (suc k)
     go true e i = rw (decimal-one n (ltb-true n 10 e)) (omega arith)
-    go false e i = rw (decimal-more n (ltb-false n 10 e), length-append (decimal (n / 10)) (glyph (n % 10) ∷ [])) (omega arith)
+    go false e i = rw (decimal-more n (ltb-false n 10 e), length-append (decimal (n / 10)) (digitByte (n % 10) ∷ [])) (omega arith)

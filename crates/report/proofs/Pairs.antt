@@ -4,14 +4,15 @@ use mathlib.Core.List.{List, [], _∷_}
 use Prim.Native.Nat.{ℕ, _+_, _/_, _%_, _≤_}
 use native.Mathlib.Omega.{arith}
 use lib.ListN.{length}
-use Rattle.report.specs.Text.{glyph, decimal}
+use Rattle.bits.specs.Ascii.{digitByte}
+use Rattle.report.specs.Text.{decimal}
 use Rattle.report.specs.Placing.{Wrote}
 use Rattle.report.proofs.Decimals.{decimal-pairs}
 use Rattle.report.proofs.Appending.{appended-more, first-fits, rest-fits}
 
 -- the last two digits
 abbrev pair : ℕ → List ℕ
-pair n = glyph (n / 10 % 10) ∷ glyph (n % 10) ∷ []
+pair n = digitByte (n / 10 % 10) ∷ digitByte (n % 10) ∷ []
 
 module _ (n : ℕ) (many : 100 ≤ n) (at room : ℕ) where
   -- room for the hundreds

@@ -6,20 +6,17 @@ use mathlib.Core.Bool.{Bool, true, false, cond}
 use mathlib.Core.List.{List, [], _∷_, _++_}
 use lib.Dec.{ltb}
 use lib.IntN.{ℤ, pos, negsuc, natAbs}
+use Rattle.bits.specs.Ascii.{digitByte}
 
 -- the bytes of a word
 abbrev pub ascii : String → List ℕ
 ascii none = []
 ascii (c then s) = code c ∷ ascii s
 
--- the byte of a digit: 48 is `0`
-abbrev pub glyph : ℕ → ℕ
-glyph d = 48 + d
-
 -- the decimal digits of a number, at most k of them
 unfoldable pub digits : ℕ → ℕ → List ℕ
 digits zero n = []
-digits (suc k) n = cond (ltb n 10) (glyph n ∷ []) (digits k (n / 10) ++ (glyph (n % 10) ∷ []))
+digits (suc k) n = cond (ltb n 10) (digitByte n ∷ []) (digits k (n / 10) ++ (digitByte (n % 10) ∷ []))
 
 -- a number in decimal, with no zero in front of another digit; no n has more than n + 1 digits
 unfoldable pub decimal : ℕ → List ℕ

@@ -3,13 +3,14 @@ use crate::Line;
 ghost use Prim.Native.Nat.{_<_};
 ghost use mathlib.Core.List.{[], _∷_};
 ghost use lib.ListN.{length};
-ghost use Rattle.report.specs.Text.{glyph, decimal};
+ghost use Rattle.bits.specs.Ascii.{digitByte};
+ghost use Rattle.report.specs.Text.{decimal};
 ghost use Rattle.report.specs.Placing.{Ready, Wrote};
 
 // Two digits to `at` and on; where they end.
 fn write_pair(tens: u8, ones: u8, line: &mut Line, at: usize) -> usize
     requires { ⌜ (tens < 10) × (ones < 10) × Ready (now line) at 2 ⌝ }
-    ensures { λ r. ⌜ Wrote (now (line .entry)) at (glyph tens ∷ glyph ones ∷ []) 2 (now (line .exit)) r ⌝ }
+    ensures { λ r. ⌜ Wrote (now (line .entry)) at (digitByte tens ∷ digitByte ones ∷ []) 2 (now (line .exit)) r ⌝ }
 {
     line[at] = 48 + tens;
     line[at + 1] = 48 + ones;

@@ -1,7 +1,7 @@
 -- `report::decimal::write_small` meets its contract: a number below ten has one digit, one below a hundred two. Assumes nothing.
 use native.Mathlib.Omega.{arith}
 use borrow.Author.Needs.{needs}
-use Rattle.report.specs.Text.{glyph}
+use Rattle.bits.specs.Ascii.{digitByte}
 use Rattle.report.proofs.Decimals.{decimal-one, decimal-two}
 use Rattle.report.proofs.Writing.{byte-wrote}
 use Rattle.report.proofs.decimal.write_small.Statement.{statement}
@@ -24,7 +24,7 @@ returns c =
     let s = c .before in
     let a = s .args in
     let p = rw (decimal-one (a .n) (omega arith)) at (s .pre .1 .1) in
-    rw (decimal-one (a .n) (omega arith)) (byte-wrote (a .line .now) (a .at) (glyph (a .n)) (s .pre .1 .0) (omega (arith, p)))
+    rw (decimal-one (a .n) (omega arith)) (byte-wrote (a .line .now) (a .at) (digitByte (a .n)) (s .pre .1 .0) (omega (arith, p)))
 
 write-pair-requires : tie.Need-write-pair-requires
 write-pair-requires c κs =
