@@ -13,14 +13,14 @@ use Rattle.frame.specs.Layout.{frame}
 use Rattle.reading.specs.Reads.{read}
 use Rattle.sets.proofs.Ranges.{sendable-fits}
 use Rattle.records.specs.Records.{valid}
-use Rattle.results.specs.Steps.{accepted}
+use Rattle.receiver.specs.Steps.{accepted}
 use Rattle.receiver.specs.Receiving.{receive}
-use Rattle.results.specs.declared.FrameResult.{FrameResult}
+use Rattle.receiver.specs.declared.FrameResult.{FrameResult}
 use Rattle.records.specs.declared.Record.{Record}
-use Rattle.results.specs.declared.ReceiveAnswer.{ReceiveAnswer}
-use Rattle.results.specs.declared.ReceiveAnswer.the-variants.{Result}
-use Rattle.results.specs.declared.Received.{Received}
-use Rattle.results.proofs.Yields.{resultIn, step-answers, accepted-valid}
+use Rattle.receiver.specs.declared.ReceiveAnswer.{ReceiveAnswer}
+use Rattle.receiver.specs.declared.ReceiveAnswer.the-variants.{Result}
+use Rattle.receiver.specs.declared.Received.{Received}
+use Rattle.receiver.proofs.Yields.{resultIn, step-answers, accepted-valid}
 use Rattle.receiver.proofs.Arrived.{packed-accepted, arrived-taken}
 use Rattle.calls.specs.Model.{Answer, done, outcomes, answerOf, receiveModel}
 use Rattle.calls.specs.Observed.{sent}

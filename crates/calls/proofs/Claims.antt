@@ -8,7 +8,7 @@ use lib.Dec.{T}
 use Rattle.order.specs.Order.{Order}
 use Rattle.frame.specs.Damage.{logicalFlips, Correctable, Within}
 use Rattle.records.specs.Records.{valid}
-use Rattle.results.specs.declared.FrameResult.{FrameResult}
+use Rattle.receiver.specs.declared.FrameResult.{FrameResult}
 use Rattle.records.specs.declared.Record.{Record}
 use Rattle.calls.specs.Frames.{Row, setOf, FrameClaim, RowClaim, CorrectableFrame, SameLevels, PairClaim}
 use Rattle.bits.specs.Lists.{Every, Successive}

@@ -18,8 +18,8 @@ use denote.Triple.Clauses.{AtExit}
 use Rattle.order.specs.Order.{defaultOrder}
 use Rattle.receiver.specs.Receiving.{receive}
 use Rattle.records.specs.declared.Record.{Record}
-use Rattle.results.specs.declared.ReceiveAnswer.{ReceiveAnswer}
-use Rattle.results.specs.declared.Received.{Received}
+use Rattle.receiver.specs.declared.ReceiveAnswer.{ReceiveAnswer}
+use Rattle.receiver.specs.declared.Received.{Received}
 use Rattle.receiver.proofs.receive as by-value
 use Rattle.receiver.proofs.receive.Reads as by-value-reads
 use Rattle.receiver.proofs.receive_in_place as in-place

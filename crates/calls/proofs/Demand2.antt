@@ -6,11 +6,11 @@ use Prim.Native.Nat.{ℕ}
 use lib.Dec.{T}
 use Rattle.order.specs.Order.{Order}
 use Rattle.records.specs.Records.{valid}
-use Rattle.results.specs.Steps.{accepted}
+use Rattle.receiver.specs.Steps.{accepted}
 use Rattle.receiver.specs.Receiving.{receive}
 use Rattle.records.specs.declared.Record.{Record}
-use Rattle.results.specs.declared.Received.{Received}
-use Rattle.results.proofs.Yields.{resultIn}
+use Rattle.receiver.specs.declared.Received.{Received}
+use Rattle.receiver.proofs.Yields.{resultIn}
 use Rattle.receiver.proofs.Arrived.{packed-accepted}
 use Rattle.calls.specs.Observed.{PackCall, ReceiveCall, sent, PackStep, ReceiveStep, packCallRefusal}
 use Rattle.calls.specs.Return.{Returns}

@@ -14,14 +14,14 @@ use Rattle.sets.specs.declared.ParameterSet.{ParameterSet}
 use Rattle.sets.specs.declared.ParameterSet.the-variants.{Unvoiced, Voiced}
 use Rattle.gain.specs.Levels.{firstLevel}
 use Rattle.records.specs.Records.{valid}
-use Rattle.results.specs.Steps.{accepted, repeated}
+use Rattle.receiver.specs.Steps.{accepted, repeated}
 use Rattle.receiver.specs.Receiving.{receive}
-use Rattle.results.specs.declared.FrameResult.{FrameResult}
-use Rattle.results.specs.declared.Kind.{Kind}
-use Rattle.results.specs.declared.Kind.the-variants as kind
+use Rattle.receiver.specs.declared.FrameResult.{FrameResult}
+use Rattle.receiver.specs.declared.Kind.{Kind}
+use Rattle.receiver.specs.declared.Kind.the-variants as kind
 use Rattle.records.specs.declared.Record.{Record}
-use Rattle.results.specs.declared.Received.{Received}
-use Rattle.results.proofs.Yields.{resultIn}
+use Rattle.receiver.specs.declared.Received.{Received}
+use Rattle.receiver.proofs.Yields.{resultIn}
 use Rattle.receiver.proofs.Arrived.{packed-accepted, correctable-accepted, double-repeated, voiced-kept}
 use Rattle.calls.specs.Frames.{CorrectableFrame, FrameClaim, SameLevels}
 

@@ -12,8 +12,8 @@ use Rattle.frame.proofs.Ordered.{arrived}
 use Rattle.records.specs.Records.{valid}
 use Rattle.receiver.specs.Receiving.{receive}
 use Rattle.records.specs.declared.Record.{Record}
-use Rattle.results.specs.declared.Received.{Received}
-use Rattle.results.proofs.Yields.{resultIn}
+use Rattle.receiver.specs.declared.Received.{Received}
+use Rattle.receiver.proofs.Yields.{resultIn}
 use Rattle.receiver.proofs.Taken.{not-refused-only}
 use Rattle.calls.specs.Observed.{PackCall, ReceiveCall, sent, PackStep, ReceiveStep, PackRun, ReceiveRun, packCallRefusal, receiveCallRefusal, channel}
 use Rattle.calls.specs.Frames.{Row, setOf}

@@ -15,10 +15,10 @@ use Rattle.sets.specs.declared.ParameterSet.{ParameterSet}
 use Rattle.frame.specs.declared.PackAnswer.{PackAnswer}
 use Rattle.frame.specs.declared.PackAnswer.the-variants.{Packed, Refused}
 use Rattle.receiver.specs.Receiving.{receive}
-use Rattle.results.specs.declared.FrameResult.{FrameResult}
+use Rattle.receiver.specs.declared.FrameResult.{FrameResult}
 use Rattle.records.specs.declared.Record.{Record}
-use Rattle.results.specs.declared.ReceiveAnswer.{ReceiveAnswer}
-use Rattle.results.specs.declared.ReceiveAnswer.the-variants as answer
+use Rattle.receiver.specs.declared.ReceiveAnswer.{ReceiveAnswer}
+use Rattle.receiver.specs.declared.ReceiveAnswer.the-variants as answer
 use Rattle.receiver.proofs.Taken.{receive-refused}
 use Rattle.calls.specs.Model.{Answer, done, refused, Outcome, packUnless, answerOf}
 use Rattle.calls.specs.Observed.{PackCall, ReceiveCall, packLeft, sent, packAnswerOf}

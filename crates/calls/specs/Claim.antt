@@ -17,7 +17,7 @@ use Rattle.bits.specs.Lists.{Every, Successive}
 use Rattle.frame.specs.Packing.{freshSync}
 use Rattle.records.specs.Records.{fresh}
 use Rattle.records.specs.declared.Record.{Record}
-use Rattle.results.specs.declared.ReceiveAnswer.the-variants.{Result}
+use Rattle.receiver.specs.declared.ReceiveAnswer.the-variants.{Result}
 use Rattle.calls.specs.Model.{done, outcomes, PackArguments, packModel, receiveModel}
 use Rattle.calls.specs.Observed.{PackCall, ReceiveCall, sent, packOutcome, receiveOutcome, lentAfter}
 use Rattle.calls.specs.Observed.{PackRun, ReceiveRun, unrefused, packCallRefusal, receiveCallRefusal, channel}

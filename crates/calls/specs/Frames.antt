@@ -9,9 +9,9 @@ use Rattle.sets.specs.Sets.{indicesIn}
 use Rattle.reading.specs.Reads.{pitchBits, wordA}
 use Rattle.frame.specs.Damage.{logicalFlips, Correctable, protectedFlips, Within}
 use Rattle.sets.specs.declared.ParameterSet.{ParameterSet}
-use Rattle.results.specs.Steps.{kindOf}
-use Rattle.results.specs.declared.FrameResult.{FrameResult}
-use Rattle.results.specs.declared.Kind.the-variants.{Unvoiced, Voiced, Repeat}
+use Rattle.receiver.specs.Steps.{kindOf}
+use Rattle.receiver.specs.declared.FrameResult.{FrameResult}
+use Rattle.receiver.specs.declared.Kind.the-variants.{Unvoiced, Voiced, Repeat}
 use Rattle.calls.specs.Observed.{PackCall, ReceiveCall}
 
 -- a frame by the set that was packed and the places that the channel changed; it is sent unvoiced or voiced as its set is

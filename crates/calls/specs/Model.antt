@@ -7,10 +7,10 @@ use Rattle.frame.specs.Layout.{frame}
 use Rattle.frame.specs.Packing.{packRefusal}
 use Rattle.sets.specs.declared.ParameterSet.{ParameterSet}
 use Rattle.receiver.specs.Receiving.{receive}
-use Rattle.results.specs.declared.FrameResult.{FrameResult}
+use Rattle.receiver.specs.declared.FrameResult.{FrameResult}
 use Rattle.records.specs.declared.Record.{Record}
-use Rattle.results.specs.declared.ReceiveAnswer.{ReceiveAnswer}
-use Rattle.results.specs.declared.ReceiveAnswer.the-variants.{Result, Refused}
+use Rattle.receiver.specs.declared.ReceiveAnswer.{ReceiveAnswer}
+use Rattle.receiver.specs.declared.ReceiveAnswer.the-variants.{Result, Refused}
 
 -- what a call answers: a value, or the number of its refusal
 pub data Answer (A : Type 0) : Type 0 where

@@ -9,9 +9,9 @@ use Rattle.frame.specs.Packing.{packRefusal}
 use Rattle.frame.specs.declared.PackAnswer.{PackAnswer}
 use Rattle.frame.specs.declared.PackAnswer.the-variants as pack
 use Rattle.receiver.specs.Receiving.{receiveRefusal}
-use Rattle.results.specs.declared.FrameResult.{FrameResult}
+use Rattle.receiver.specs.declared.FrameResult.{FrameResult}
 use Rattle.records.specs.declared.Record.{Record}
-use Rattle.results.specs.declared.ReceiveAnswer.{ReceiveAnswer}
+use Rattle.receiver.specs.declared.ReceiveAnswer.{ReceiveAnswer}
 use Rattle.calls.specs.Model.{Answer, done, refused, Outcome, PackArguments, packModel, answerOf, receiveModel}
 
 -- a packing call: its arguments, the sync bit it was given, its answer, and the lent output afterwards

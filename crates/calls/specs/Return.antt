@@ -1,9 +1,9 @@
 -- Demand 2: a packed set returns as itself.
 use mathlib.Core.Path.{_≡_}
 use Rattle.sets.specs.Sets.{indicesIn}
-use Rattle.results.specs.Steps.{kindOf}
-use Rattle.results.specs.declared.FrameResult.{FrameResult}
-use Rattle.results.specs.declared.ReceiveAnswer.the-variants.{Result}
+use Rattle.receiver.specs.Steps.{kindOf}
+use Rattle.receiver.specs.declared.FrameResult.{FrameResult}
+use Rattle.receiver.specs.declared.ReceiveAnswer.the-variants.{Result}
 use Rattle.calls.specs.Observed.{PackCall, ReceiveCall}
 
 -- a receiving call gives back what a packing call packed: the set in its result, the set and its G2 in the record, the sync bit, nothing repaired

@@ -8,12 +8,12 @@ use lib.Dec.{T}
 use lib.ListN.{length}
 use Rattle.order.specs.Order.{defaultOrder, logicalBit}
 use Rattle.records.specs.Records.{fresh, valid, pushed, muted}
-use Rattle.results.specs.Steps.{repeated, step}
+use Rattle.receiver.specs.Steps.{repeated, step}
 use Rattle.receiver.specs.Receiving.{receive}
 use Rattle.records.specs.declared.FrameKind.the-variants.{Repeat}
 use Rattle.records.specs.declared.Past.{Past}
 use Rattle.records.specs.declared.Record.{Record}
-use Rattle.results.specs.declared.Received.{Received}
+use Rattle.receiver.specs.declared.Received.{Received}
 use Rattle.receiver.proofs.Taken.{not-refused, receive-taken}
 use Rattle.records.proofs.Validity.{fresh-valid}
 use Rattle.calls.specs.Model.{outcomes, answerOf, receiveModel}

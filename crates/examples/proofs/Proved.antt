@@ -10,7 +10,7 @@ use Rattle.frame.specs.Layout.{words, others, unvoicedWords, logical}
 use Rattle.frame.specs.Packing.{packAnswer, packWrites}
 use Rattle.reading.specs.Reads.{read}
 use Rattle.records.specs.Records.{fresh}
-use Rattle.results.specs.Steps.{accepted, repeated}
+use Rattle.receiver.specs.Steps.{accepted, repeated}
 use Rattle.receiver.specs.Receiving.{receive}
 use Rattle.spectra.specs.Values.{raised}
 use Rattle.examples.specs.Examples.{Examples}

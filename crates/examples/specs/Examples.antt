@@ -25,9 +25,9 @@ use Rattle.sets.specs.declared.ParameterSet.the-variants.{Unvoiced}
 use Rattle.reading.specs.declared.Reading.the-variants as reading
 use Rattle.records.specs.Records.{fresh}
 use Rattle.receiver.specs.Receiving.{receive}
-use Rattle.results.specs.declared.FrameResult.{FrameResult}
-use Rattle.results.specs.declared.Kind.the-variants as kind
-use Rattle.results.specs.declared.ReceiveAnswer.the-variants.{Result}
+use Rattle.receiver.specs.declared.FrameResult.{FrameResult}
+use Rattle.receiver.specs.declared.Kind.the-variants as kind
+use Rattle.receiver.specs.declared.ReceiveAnswer.the-variants.{Result}
 use Rattle.spectra.specs.Values.{spacing, raised}
 use Rattle.calls.specs.Model.{Answer, done, refused, outcomes, receiveModel}
 use Rattle.bits.specs.Lists.{Every}

@@ -7,7 +7,7 @@ use Rattle.gain.specs.Levels.{firstLevel}
 use Rattle.frame.specs.Layout.{words, others, unvoicedWords, logical}
 use Rattle.reading.specs.Reads.{read}
 use Rattle.records.specs.Records.{fresh}
-use Rattle.results.specs.Steps.{accepted, repeated}
+use Rattle.receiver.specs.Steps.{accepted, repeated}
 use Rattle.receiver.specs.Receiving.{receive}
 use Rattle.report.specs.Text.{digits, decimal}
 use Rattle.report.specs.Lines.{lsfText, setText, resultText, frameLine, lastLine}

@@ -4,10 +4,10 @@ use mathlib.Core.Path.{_≡_}
 use mathlib.Core.List.{List, _++_}
 use lib.ListN.{length, take, drop}
 use Rattle.order.specs.Order.{defaultOrder}
-use Rattle.results.specs.declared.Kind.{Kind}
-use Rattle.results.specs.declared.Kind.the-variants.{Unvoiced, Voiced, Repeat}
-use Rattle.results.specs.declared.ReceiveAnswer.{ReceiveAnswer}
-use Rattle.results.specs.declared.ReceiveAnswer.the-variants.{Result, Refused}
+use Rattle.receiver.specs.declared.Kind.{Kind}
+use Rattle.receiver.specs.declared.Kind.the-variants.{Unvoiced, Voiced, Repeat}
+use Rattle.receiver.specs.declared.ReceiveAnswer.{ReceiveAnswer}
+use Rattle.receiver.specs.declared.ReceiveAnswer.the-variants.{Result, Refused}
 use Rattle.records.specs.declared.Record.{Record}
 use Rattle.records.specs.Records.{fresh}
 use Rattle.receiver.specs.Receiving.{receive}

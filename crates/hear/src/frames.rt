@@ -1,8 +1,8 @@
 // What the receiver makes of each frame, and its line.
+use receiver::Kind;
+use receiver::ReceiveAnswer;
 use records::Record;
 use report::end_of;
-use results::Kind;
-use results::ReceiveAnswer;
 ghost use mathlib.Core.Path.{_≡_};
 ghost use Prim.Native.Nat.{suc, _+_, _*_, _≤_};
 ghost use lib.ListN.{length};

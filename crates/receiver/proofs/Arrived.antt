@@ -27,12 +27,12 @@ use Rattle.frame.proofs.Kept.{voicedOrErased}
 use Rattle.frame.proofs.Repaired.{seen}
 use Rattle.frame.proofs.Ordered.{arrived, packed-returns, correctable-returns, double-erased, voiced-returns}
 use Rattle.records.specs.Records.{valid}
-use Rattle.results.specs.Steps.{accepted, repeated, step}
+use Rattle.receiver.specs.Steps.{accepted, repeated, step}
 use Rattle.receiver.specs.Receiving.{receive}
-use Rattle.results.specs.declared.Kind.the-variants as kind
+use Rattle.receiver.specs.declared.Kind.the-variants as kind
 use Rattle.records.specs.declared.Record.{Record}
-use Rattle.results.specs.declared.Received.{Received}
-use Rattle.results.proofs.Yields.{resultIn}
+use Rattle.receiver.specs.declared.Received.{Received}
+use Rattle.receiver.proofs.Yields.{resultIn}
 use Rattle.receiver.proofs.Taken.{not-refused, receive-taken}
 
 -- what is not read unvoiced has the kind voiced or repeat

@@ -17,10 +17,10 @@ use Rattle.reading.specs.Reads.{read}
 use Rattle.reading.specs.declared.Reading.{Reading}
 use Rattle.reading.proofs.Extent.{read-ext}
 use Rattle.records.specs.Records.{valid}
-use Rattle.results.specs.Steps.{step}
+use Rattle.receiver.specs.Steps.{step}
 use Rattle.receiver.specs.Receiving.{receiveRefusal, receiveUnless, firstRefusal, receive}
 use Rattle.records.specs.declared.Record.{Record}
-use Rattle.results.specs.declared.ReceiveAnswer.the-variants.{Refused}
+use Rattle.receiver.specs.declared.ReceiveAnswer.the-variants.{Refused}
 
 -- the last bit of a number is its remainder
 last-bit : (word : ℕ) → eqb (word % 2) 1 ≡ wordBit 54 word 53

@@ -1,3 +1,4 @@
+pub mod Yields
 pub mod Taken
 pub mod Sync
 pub mod Arrived

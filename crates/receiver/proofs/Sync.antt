@@ -10,10 +10,10 @@ use Rattle.reading.specs.declared.Reading.{Reading}
 use Rattle.reading.specs.declared.Reading.the-variants.{Accepted, Erased}
 use Rattle.reading.proofs.Extent.{read-ext}
 use Rattle.records.specs.declared.Record.{Record}
-use Rattle.results.specs.Steps.{accepted, repeated, step}
+use Rattle.receiver.specs.Steps.{accepted, repeated, step}
 use Rattle.receiver.specs.Receiving.{receive}
 use Rattle.receiver.specs.Sync.{withSync, SyncDiffers, SyncAlone}
-use Rattle.results.specs.declared.Received.{Received}
+use Rattle.receiver.specs.declared.Received.{Received}
 use Rattle.receiver.proofs.Taken.{receive-taken}
 
 step-sync : (r : Record) (s t : Bool) (x : Reading) → (step r t x .answer ≡ withSync t (step r s x .answer)) × (step r t x .next ≡ step r s x .next)

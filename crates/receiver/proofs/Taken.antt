@@ -10,7 +10,7 @@ use Rattle.bits.proofs.Every.{true-T}
 use Rattle.order.specs.Order.{logicalBit, frameRefusal}
 use Rattle.reading.specs.Reads.{read}
 use Rattle.records.specs.Records.{valid}
-use Rattle.results.specs.Steps.{step}
+use Rattle.receiver.specs.Steps.{step}
 use Rattle.receiver.specs.Receiving.{firstRefusal, receiveRefusal, receiveUnless, receive}
 use Rattle.records.specs.declared.Record.{Record}
 

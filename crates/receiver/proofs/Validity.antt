@@ -8,7 +8,7 @@ use Rattle.reading.specs.Reads.{read}
 use Rattle.reading.proofs.Fits.{read-fits}
 use Rattle.records.specs.Records.{valid}
 use Rattle.records.specs.declared.Record.{Record}
-use Rattle.results.proofs.Yields.{step-valid}
+use Rattle.receiver.proofs.Yields.{step-valid}
 use Rattle.receiver.specs.Receiving.{receiveRefusal, receiveUnless, receive}
 
 -- receiving any bytes leaves a valid record where it was given one

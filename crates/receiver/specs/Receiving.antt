@@ -5,10 +5,10 @@ use mathlib.Core.List.{List}
 use Rattle.order.specs.Order.{logicalBit, frameRefusal}
 use Rattle.reading.specs.Reads.{read}
 use Rattle.records.specs.declared.Record.{Record}
-use Rattle.results.specs.declared.ReceiveAnswer.the-variants.{Refused}
-use Rattle.results.specs.declared.Received.{Received}
+use Rattle.receiver.specs.declared.ReceiveAnswer.the-variants.{Refused}
+use Rattle.receiver.specs.declared.Received.{Received}
 use Rattle.records.specs.Records.{valid}
-use Rattle.results.specs.Steps.{step}
+use Rattle.receiver.specs.Steps.{step}
 
 -- of two refusals the first that applies, 0 is none
 abbrev pub firstRefusal : ℕ → ℕ → ℕ

@@ -6,8 +6,8 @@ use mathlib.Core.List.{List}
 use Rattle.order.specs.Order.{logicalBit}
 use Rattle.records.specs.declared.Record.{Record}
 use Rattle.receiver.specs.Receiving.{receiveRefusal, receive}
-use Rattle.results.specs.declared.ReceiveAnswer.{ReceiveAnswer}
-use Rattle.results.specs.declared.ReceiveAnswer.the-variants.{Result, Refused}
+use Rattle.receiver.specs.declared.ReceiveAnswer.{ReceiveAnswer}
+use Rattle.receiver.specs.declared.ReceiveAnswer.the-variants.{Result, Refused}
 
 -- an answer with another sync bit, all else the same
 abbrev pub withSync : Bool → ReceiveAnswer → ReceiveAnswer

@@ -1,16 +1,16 @@
 // The calls that take a frame.
+use crate::ReceiveAnswer;
+use crate::Received;
+use crate::steps::step;
 use order::BitsAnswer;
 use order::logical_bits;
 use reading::read;
 use records::Record;
 use records::is_valid;
-use results::ReceiveAnswer;
-use results::Received;
-use results::step;
 ghost use mathlib.Core.Path.{_≡_};
 ghost use Rattle.order.specs.Order.{defaultOrder};
 ghost use Rattle.receiver.specs.Receiving.{receive};
-ghost use Rattle.results.specs.declared.ReceiveAnswer.the-variants.{Refused};
+ghost use Rattle.receiver.specs.declared.ReceiveAnswer.the-variants.{Refused};
 
 // A refusal: its number, and the record as it is.
 fn refuse(rec: Record, n: u8) -> Received

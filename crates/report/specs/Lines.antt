@@ -5,12 +5,12 @@ use lib.IntN.{ℤ}
 use Rattle.sets.specs.declared.Indices.{Indices}
 use Rattle.sets.specs.declared.ParameterSet.{ParameterSet}
 use Rattle.sets.specs.declared.ParameterSet.the-variants.{Unvoiced, Voiced}
-use Rattle.results.specs.declared.FrameResult.{FrameResult}
-use Rattle.results.specs.declared.Kind.{Kind}
-use Rattle.results.specs.declared.Kind.the-variants.{Repeat}
-use Rattle.results.specs.declared.Kind.the-variants.{Unvoiced as Kind·Unvoiced, Voiced as Kind·Voiced}
-use Rattle.results.specs.declared.ReceiveAnswer.{ReceiveAnswer}
-use Rattle.results.specs.declared.ReceiveAnswer.the-variants.{Result, Refused}
+use Rattle.receiver.specs.declared.FrameResult.{FrameResult}
+use Rattle.receiver.specs.declared.Kind.{Kind}
+use Rattle.receiver.specs.declared.Kind.the-variants.{Repeat}
+use Rattle.receiver.specs.declared.Kind.the-variants.{Unvoiced as Kind·Unvoiced, Voiced as Kind·Voiced}
+use Rattle.receiver.specs.declared.ReceiveAnswer.{ReceiveAnswer}
+use Rattle.receiver.specs.declared.ReceiveAnswer.the-variants.{Result, Refused}
 use Rattle.report.specs.Text.{ascii, decimal, signed, flag, field}
 
 -- the first line: the grains in a dB, and the order of the bits

@@ -6,7 +6,7 @@ use crate::bytes::place_line;
 use crate::fields::write_result;
 use crate::names::write_byte;
 use crate::names::write_number;
-use results::ReceiveAnswer;
+use receiver::ReceiveAnswer;
 ghost use mathlib.Core.Path.{_≡_};
 ghost use Prim.Native.Nat.{_≤_};
 ghost use lib.ListN.{length};

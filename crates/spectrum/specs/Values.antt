@@ -8,8 +8,8 @@ use Rattle.order.specs.Order.{defaultOrder}
 use Rattle.sets.specs.declared.ParameterSet.{ParameterSet}
 use Rattle.records.specs.Records.{fresh}
 use Rattle.receiver.specs.Receiving.{receive, firstRefusal}
-use Rattle.results.specs.declared.ReceiveAnswer.{ReceiveAnswer}
-use Rattle.results.specs.declared.ReceiveAnswer.the-variants.{Result, Refused}
+use Rattle.receiver.specs.declared.ReceiveAnswer.{ReceiveAnswer}
+use Rattle.receiver.specs.declared.ReceiveAnswer.the-variants.{Result, Refused}
 use Rattle.codebook.specs.Rows.{lsfSize, magnitudeSize}
 use Rattle.spectra.specs.Values.{lsfRefusal, lsfWrites, magnitudesRefusal, magnitudesWrites}
 use Rattle.spectra.specs.declared.ValuesAnswer.{ValuesAnswer}

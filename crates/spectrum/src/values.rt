@@ -1,6 +1,6 @@
 // The values of a frame, by the texts of two codebooks.
 use codebook_text::TextAnswer;
-use results::ReceiveAnswer;
+use receiver::ReceiveAnswer;
 use sets::ParameterSet;
 use spectra::ValuesAnswer;
 ghost use mathlib.Core.Path.{_≡_};

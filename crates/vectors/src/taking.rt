@@ -1,12 +1,12 @@
 // Vectors of receiving.
 use crate::vector::set_of;
 use crate::vector::wide;
+use receiver::FrameResult;
+use receiver::Kind;
+use receiver::ReceiveAnswer;
 use records::FrameKind;
 use records::Past;
 use records::Record;
-use results::FrameResult;
-use results::Kind;
-use results::ReceiveAnswer;
 use sets::ParameterSet;
 ghost use Prim.Native.Nat.{_≤_};
 

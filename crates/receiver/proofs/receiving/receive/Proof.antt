@@ -3,7 +3,7 @@ use mathlib.Core.Path.{sym, ap, _∙_}
 use lib.Dec.{eqb}
 use Prim.Native.Nat.{_%_}
 use borrow.Author.Needs.{needs}
-use Rattle.results.specs.Steps.{step}
+use Rattle.receiver.specs.Steps.{step}
 use Rattle.receiver.proofs.Cases.{frame-owes, record-owes, step-owes}
 use Rattle.receiver.proofs.receiving.receive.Statement.{statement}
 use Rattle.receiver.proofs.receiving.receive.Tie as tie

@@ -47,13 +47,13 @@ use denote.Exit.{yes}
 use Rattle.order.specs.Order.{defaultOrder}
 use Rattle.receiver.specs.Receiving.{receive}
 use Rattle.records.specs.declared.Record.{Record}
-use Rattle.results.specs.declared.Received.{Received}
+use Rattle.receiver.specs.declared.Received.{Received}
 use Rattle.records.proofs.Record as rec
 use Rattle.records.proofs.Record.Laws as rec-laws
-use Rattle.results.proofs.Received as got
-use Rattle.results.proofs.Received.Laws as got-laws
-use Rattle.results.proofs.ReceiveAnswer as ans
-use Rattle.results.proofs.ReceiveAnswer.Laws as ans-laws
+use Rattle.receiver.proofs.Received as got
+use Rattle.receiver.proofs.Received.Laws as got-laws
+use Rattle.receiver.proofs.ReceiveAnswer as ans
+use Rattle.receiver.proofs.ReceiveAnswer.Laws as ans-laws
 use Rattle.receiver.proofs.receiving.receive as by-value
 use Rattle.receiver.proofs.receiving.receive.Symbol as by-value-code
 use Rattle.receiver.proofs.receiving.receive.Symbol.{name as #receive}

@@ -5,8 +5,8 @@ use Rattle.order.specs.Order.{defaultOrder}
 use Rattle.records.specs.Records.{fresh}
 use Rattle.receiver.specs.Receiving.{receive}
 use Rattle.records.specs.declared.Record.{Record}
-use Rattle.results.specs.declared.ReceiveAnswer.{ReceiveAnswer}
-use Rattle.results.specs.declared.Received.{Received}
+use Rattle.receiver.specs.declared.ReceiveAnswer.{ReceiveAnswer}
+use Rattle.receiver.specs.declared.Received.{Received}
 use Rattle.spectrum.specs.Values.{ofAnswer, ofFrame}
 use Rattle.spectrum.proofs.values.of_frame.Statement.{statement}
 use Rattle.spectrum.proofs.values.of_frame.Tie as tie

@@ -1,9 +1,9 @@
--- `results::steps::step` meets its contract: each arm is what its call ensures. Assumes nothing.
+-- `receiver::steps::step` meets its contract: each arm is what its call ensures. Assumes nothing.
 use mathlib.Core.Path.{sym, ap, _∙_}
 use borrow.Author.Needs.{needs}
-use Rattle.results.specs.Steps.{step}
-use Rattle.results.proofs.steps.step.Statement.{statement}
-use Rattle.results.proofs.steps.step.Tie as tie
+use Rattle.receiver.specs.Steps.{step}
+use Rattle.receiver.proofs.steps.step.Statement.{statement}
+use Rattle.receiver.proofs.steps.step.Tie as tie
 
 enum-known-reading : tie.Need-enum-known-reading
 enum-known-reading c = search needs

@@ -8,11 +8,11 @@ use Rattle.sets.specs.declared.ParameterSet.the-variants.{Unvoiced, Voiced}
 use Rattle.reading.specs.declared.Reading.{Reading}
 use Rattle.reading.specs.declared.Reading.the-variants as reading
 use Rattle.records.specs.declared.FrameKind.the-variants.{Accepted, Repeat}
-use Rattle.results.specs.declared.Kind.{Kind}
-use Rattle.results.specs.declared.Kind.the-variants as kind
+use Rattle.receiver.specs.declared.Kind.{Kind}
+use Rattle.receiver.specs.declared.Kind.the-variants as kind
 use Rattle.records.specs.declared.Record.{Record}
-use Rattle.results.specs.declared.ReceiveAnswer.the-variants.{Result}
-use Rattle.results.specs.declared.Received.{Received}
+use Rattle.receiver.specs.declared.ReceiveAnswer.the-variants.{Result}
+use Rattle.receiver.specs.declared.Received.{Received}
 use Rattle.records.specs.Records.{pushed, muted}
 
 -- the kind of an accepted frame

@@ -1,8 +1,8 @@
--- `results::steps::accept` meets its contract: each part of the result is what its call ensures. Assumes nothing.
+-- `receiver::steps::accept` meets its contract: each part of the result is what its call ensures. Assumes nothing.
 use borrow.Author.Needs.{needs}
-use Rattle.results.specs.Steps.{accepted}
-use Rattle.results.proofs.steps.accept.Statement.{statement}
-use Rattle.results.proofs.steps.accept.Tie as tie
+use Rattle.receiver.specs.Steps.{accepted}
+use Rattle.receiver.proofs.steps.accept.Statement.{statement}
+use Rattle.receiver.proofs.steps.accept.Tie as tie
 
 push-requires : tie.Need-push-requires
 push-requires c κs = search needs

@@ -1,9 +1,9 @@
--- `results::steps::kind_of` meets its contract: each arm names its kind. Assumes nothing.
+-- `receiver::steps::kind_of` meets its contract: each arm names its kind. Assumes nothing.
 use mathlib.Core.Path.{sym, ap}
 use borrow.Author.Needs.{needs}
-use Rattle.results.specs.Steps.{kindOf}
-use Rattle.results.proofs.steps.kind_of.Statement.{statement}
-use Rattle.results.proofs.steps.kind_of.Tie as tie
+use Rattle.receiver.specs.Steps.{kindOf}
+use Rattle.receiver.proofs.steps.kind_of.Statement.{statement}
+use Rattle.receiver.proofs.steps.kind_of.Tie as tie
 
 enum-told : tie.Need-enum-told
 enum-told c = search needs

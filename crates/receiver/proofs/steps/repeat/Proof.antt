@@ -1,8 +1,8 @@
--- `results::steps::repeat` meets its contract: each part of the result is what its call ensures. Assumes nothing.
+-- `receiver::steps::repeat` meets its contract: each part of the result is what its call ensures. Assumes nothing.
 use borrow.Author.Needs.{needs}
-use Rattle.results.specs.Steps.{repeated}
-use Rattle.results.proofs.steps.repeat.Statement.{statement}
-use Rattle.results.proofs.steps.repeat.Tie as tie
+use Rattle.receiver.specs.Steps.{repeated}
+use Rattle.receiver.proofs.steps.repeat.Statement.{statement}
+use Rattle.receiver.proofs.steps.repeat.Tie as tie
 
 push-requires : tie.Need-push-requires
 push-requires c κs = search needs

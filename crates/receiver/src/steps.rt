@@ -13,7 +13,7 @@ use records::push;
 use sets::ParameterSet;
 use sets::indices_of;
 ghost use mathlib.Core.Path.{_≡_};
-ghost use Rattle.results.specs.Steps.{kindOf, accepted, repeated, step};
+ghost use Rattle.receiver.specs.Steps.{kindOf, accepted, repeated, step};
 
 // The kind of an accepted frame.
 fn kind_of(set: ParameterSet) -> Kind
@@ -79,7 +79,7 @@ fn repeat(rec: Record, sync: bool) -> Received
 
 // A frame by what its bits are read as: an erased one is a repeat. Any record is taken as it stands; the calls that
 // take a frame test its ranges first.
-pub fn step(rec: Record, sync: bool, reading: Reading) -> Received
+pub(crate) fn step(rec: Record, sync: bool, reading: Reading) -> Received
     ensures { λ r. ⌜ r ≡ step rec sync reading ⌝ }
 {
     match reading {
