@@ -2,6 +2,7 @@
 mod packing;
 mod word;
 
+pub use packing::fresh_sync;
 pub use packing::pack;
 
 // A packed frame and the sync bit of the next one, or the refusal.

@@ -8,7 +8,7 @@ ghost use mathlib.Core.Path.{_≡_};
 ghost use mathlib.Core.List.{_++_};
 ghost use Prim.Native.Nat.{_≤_};
 ghost use lib.ListN.{length, drop};
-ghost use Rattle.frame.specs.Packing.{packAnswer, packWrites};
+ghost use Rattle.frame.specs.Packing.{freshSync, packAnswer, packWrites};
 
 // Seven bytes to the front of a slice; the rest of it stays.
 fn write_front(out: &mut [u8], bytes: [u8; 7])
@@ -18,6 +18,13 @@ fn write_front(out: &mut [u8], bytes: [u8; 7])
     for i in 0..7 {
         out[i] = bytes[i];
     }
+}
+
+// The sync bit of a sender that has packed no frame.
+pub fn fresh_sync() -> bool
+    ensures { λ r. ⌜ r ≡ freshSync ⌝ }
+{
+    false
 }
 
 // The frame of a set in the default order, into the front of `out`; `sync` is the sender's state, and the

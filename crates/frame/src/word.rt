@@ -1,7 +1,7 @@
 // The 54 logical bits of a set and a sync bit, as one number: logical bit 0 is the most significant.
 use hamming::WordLength;
 use hamming::parity_of;
-use pitch::code_of;
+use pitch::CodeAnswer;
 use sets::Indices;
 use sets::ParameterSet;
 use sets::Voicing;
@@ -9,6 +9,7 @@ ghost use mathlib.Core.Path.{_≡_};
 ghost use mathlib.Core.Bool.{true};
 ghost use Prim.Native.Nat.{_+_, _*_, _≤_, _<_, _^_};
 ghost use Rattle.bits.specs.Bits.{bitNum, value, bits};
+ghost use Rattle.pitch.specs.Pitch.{codeOf};
 ghost use Rattle.sets.specs.Sets.{sendable};
 ghost use Rattle.frame.specs.Layout.{words, unvoicedWords, voicedWords, others, logical};
 
@@ -17,6 +18,17 @@ fn bit_number(b: bool) -> u64
     ensures { λ r. ⌜ (r ≡ bitNum b) × (r ≤ 1) ⌝ }
 {
     if b { 1 } else { 0 }
+}
+
+// The pitch code of an index in range, by the call that refuses all others.
+fn code_of(index: u8) -> u8
+    requires { ⌜ index < 99 ⌝ }
+    ensures { λ r. ⌜ r ≡ codeOf index ⌝ }
+{
+    match pitch::encode(index) {
+        CodeAnswer::Code(code) => code,
+        CodeAnswer::Refused(_) => 0,
+    }
 }
 
 // Words of 8, 6, 7 and 7 bits as one number.

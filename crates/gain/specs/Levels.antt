@@ -42,3 +42,8 @@ levelAnswer g2 = levelUnless (levelRefusal g2) (level g2)
 -- the answer to a call for the first level
 unfoldable pub firstLevelAnswer : ℕ → ℕ → ℕ → LevelAnswer
 firstLevelAnswer g2 code q = levelUnless (firstLevelRefusal g2 code q) (firstLevel g2 code q)
+
+-- a helper of the code above: the level in an answer that is no refusal; a refusal has none
+abbrev pub levelIn : LevelAnswer → ℕ
+levelIn (Level l) = l
+levelIn (Refused n) = 0

@@ -8,14 +8,14 @@ ghost use Rattle.gain.specs.Levels.{level, apart, mean, firstLevel, leve
 const OUT_OF_RANGE: u8 = 5;
 
 // The level of a second code in units of 1/186 dB, by the formula alone.
-pub fn level_of(g2: u8) -> u32
+fn level_of(g2: u8) -> u32
     ensures { λ r. ⌜ r ≡ level g2 ⌝ }
 {
     1860 + 402 * (g2 as u32)
 }
 
 // The first level of a frame by its codes and `q`, the second code before, by the formula alone.
-pub fn first_level_of(g2: u8, code: u8, q: u8) -> u32
+fn first_level_of(g2: u8, code: u8, q: u8) -> u32
     ensures { λ r. ⌜ r ≡ firstLevel g2 code q ⌝ }
 {
     if code == 0 {

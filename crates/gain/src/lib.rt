@@ -2,9 +2,7 @@
 mod levels;
 
 pub use levels::first_level;
-pub use levels::first_level_of;
 pub use levels::level;
-pub use levels::level_of;
 
 // The answer to a call for a level.
 pub enum LevelAnswer {

@@ -15,7 +15,7 @@ use Rattle.pitch.specs.Pitch.{index, byOnes, classOf}
 use Rattle.pitch.specs.declared.PitchClass.the-variants.{Unvoiced, Erased, Voiced}
 
 -- the language's count of ones of a number below 128 is that of its seven bits
-count-seven : (c : ℕ) → c < 128 → Count.ones c ≡ ones (bits 7 c)
+pub count-seven : (c : ℕ) → c < 128 → Count.ones c ≡ ones (bits 7 c)
 unfolding Count.ones Count.onesIn
 count-seven = equal-at 128 Count.ones (λ c. ones (bits 7 c)) tt
 

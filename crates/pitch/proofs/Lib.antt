@@ -2,3 +2,4 @@ pub mod ByOnes
 pub mod Codes
 pub mod Damage
 pub mod Standard
+pub mod Answers

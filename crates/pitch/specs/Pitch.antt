@@ -66,3 +66,12 @@ codeUnless (suc n) i = code.Refused (suc n)
 
 unfoldable pub codeAnswer : ℕ → CodeAnswer
 codeAnswer i = codeUnless (indexRefusal i) i
+
+-- helpers of the code above: the class, and the code, in an answer that is no refusal; a refusal has none
+abbrev pub classIn : ClassAnswer → PitchClass
+classIn (class.Class k) = k
+classIn (class.Refused n) = Erased
+
+abbrev pub codeIn : CodeAnswer → ℕ
+codeIn (code.Code c) = c
+codeIn (code.Refused n) = 0

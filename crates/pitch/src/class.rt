@@ -14,19 +14,19 @@ fn index_of(code: u8) -> u8
     INDEX[code as usize]
 }
 
-// The class of the code in the low seven bits of a number.
-pub fn class_of(code: u8) -> PitchClass
+// The class of a seven-bit code.
+fn class_of(code: u8) -> PitchClass
+    requires { ⌜ code < 128 ⌝ }
     ensures { λ r. ⌜ r ≡ classOf (bits 7 code) ⌝ }
 {
-    let seven = code % 128;
-    let ones = u8::count_ones(seven);
+    let ones = u8::count_ones(code);
     if ones < 2 {
         return PitchClass::Unvoiced;
     }
     if ones < 3 {
         return PitchClass::Erased;
     }
-    PitchClass::Voiced(index_of(seven))
+    PitchClass::Voiced(index_of(code))
 }
 
 // The class of a code; past 127 there is none.

@@ -1,14 +1,7 @@
 // The pitch code that is sent for an index.
 use crate::CodeAnswer;
 ghost use mathlib.Core.Path.{_≡_};
-ghost use Rattle.pitch.specs.Pitch.{codeOf, codeAnswer};
-
-// The code of an index, and past the last index the code 0, which is no voiced frame's.
-pub fn code_of(index: u8) -> u8
-    ensures { λ r. ⌜ r ≡ codeOf index ⌝ }
-{
-    if index < 99 { CODES[index as usize] } else { 0 }
-}
+ghost use Rattle.pitch.specs.Pitch.{codeAnswer};
 
 // The code of an index; past 98 there is none.
 pub fn encode(index: u8) -> CodeAnswer
@@ -17,7 +10,7 @@ pub fn encode(index: u8) -> CodeAnswer
     if 98 < index {
         return CodeAnswer::Refused(5);
     }
-    CodeAnswer::Code(code_of(index))
+    CodeAnswer::Code(CODES[index as usize])
 }
 
 // The codes with at least three ones, rising.

@@ -2,9 +2,7 @@
 mod class;
 mod code;
 
-pub use class::class_of;
 pub use class::classify;
-pub use code::code_of;
 pub use code::encode;
 
 // What a pitch code says of its frame; a voiced one has its pitch index.

@@ -1,7 +1,7 @@
 // From two levels to their gain codes (5.3.3).
 use crate::CodesAnswer;
+use crate::levels::first_level_of;
 use crate::uniform::quantise;
-use gain::first_level_of;
 ghost use mathlib.Core.Path.{_≡_};
 ghost use mathlib.Core.Bool.{true};
 ghost use Prim.Native.Nat.{_≤_};
@@ -66,7 +66,7 @@ fn first_code(first: i32, g2: u8, q: u8) -> u8
 
 // Whether the second levels are close, and the first level is close to their mean.
 fn is_steady(first: i32, g2: u8, q: u8) -> bool
-    requires { ⌜ levelInRange first ≡ true ⌝ }
+    requires { ⌜ (levelInRange first ≡ true) × (g2 ≤ 31) × (q ≤ 31) ⌝ }
     ensures { λ r. ⌜ r ≡ steady first g2 q ⌝ }
 {
     let mean = first_level_of(g2, 0, q);

@@ -17,16 +17,11 @@ use Rattle.hamming.specs.Word.{decode}
 use Rattle.hamming.specs.declared.Decoded.{Decoded}
 use Rattle.hamming.specs.declared.Decoded.the-variants as word
 use Rattle.sets.specs.Sets.{indicesFit, voicingFits, inRange}
-use Rattle.reading.specs.Reads.{pitchBits, indicesOf, voicingOf, fromWords, byClass, read}
+use Rattle.reading.specs.Reads.{pitchBits, indicesOf, voicingOf, fromWords, byClass, read, readingFits}
 use Rattle.reading.specs.declared.Reading.{Reading}
 use Rattle.reading.specs.declared.Reading.the-variants.{Accepted, Erased}
 use Rattle.sets.proofs.Ranges.{index-fits, voicing-fits}
 use Rattle.reading.proofs.Joined.{words-bounds}
-
--- a reading has no set, or one in range
-abbrev pub readingFits : Reading → Bool
-readingFits (Accepted set k) = inRange set
-readingFits Erased = true
 
 module _ (g : ℕ → Bool) where
   -- the indices from data within their bounds

@@ -1,6 +1,6 @@
 -- Document 01, "Receiver" and "The four words": what a frame's logical bits are read as.
 use Prim.Native.Nat.{ℕ, _+_, _*_, _/_, _%_}
-use mathlib.Core.Bool.{Bool, cond}
+use mathlib.Core.Bool.{Bool, true, cond}
 use mathlib.Core.List.{List, _++_}
 use lib.Dec.{eqb}
 use Rattle.bits.specs.Bits.{ones, value, cut}
@@ -10,6 +10,7 @@ use Rattle.pitch.specs.declared.PitchClass.the-variants as class
 use Rattle.hamming.specs.Word.{decode}
 use Rattle.hamming.specs.declared.Decoded.{Decoded}
 use Rattle.hamming.specs.declared.Decoded.the-variants as word
+use Rattle.sets.specs.Sets.{inRange}
 use Rattle.sets.specs.declared.Indices.{Indices}
 use Rattle.sets.specs.declared.Voicing.{Voicing}
 use Rattle.sets.specs.declared.ParameterSet.the-variants.{Unvoiced, Voiced}
@@ -69,3 +70,8 @@ byClass g (class.Voiced i) = Accepted (Voiced (indicesOf g (value (cut g 0 4)) (
 -- what 54 logical bits are read as; the sync bit plays no part
 unfoldable pub read : (ℕ → Bool) → Reading
 read g = byClass g (classOf (pitchBits g))
+
+-- whether what is read has no set, or one in range: a helper of the code above
+abbrev pub readingFits : Reading → Bool
+readingFits (Accepted set k) = inRange set
+readingFits Erased = true

@@ -1,5 +1,10 @@
 // What a frame's logical bits are read as.
+//
+//   unpacking   the call, and what a frame of each class is read as
+//   parts       parts of the 54 bits
+//   pitch_code  what the pitch code says
 mod parts;
+mod pitch_code;
 mod unpacking;
 
 use sets::ParameterSet;

@@ -3,19 +3,19 @@ use crate::Reading;
 use crate::parts::indices;
 use crate::parts::part;
 use crate::parts::voicing;
+use crate::pitch_code::class_of;
+use crate::pitch_code::pitch_repaired;
 use hamming::Decoded;
 use hamming::WordLength;
 use hamming::decode;
 use pitch::PitchClass;
-use pitch::class_of;
 use sets::ParameterSet;
 ghost use mathlib.Core.Path.{_≡_};
-ghost use Prim.Native.Nat.{_≤_};
-ghost use Rattle.bits.specs.Bits.{bits, cut};
+ghost use Rattle.bits.specs.Bits.{cut};
 ghost use Rattle.hamming.specs.Word.{decode};
 ghost use Rattle.order.specs.Word.{wordBit};
 ghost use Rattle.pitch.specs.declared.PitchClass.the-variants as class;
-ghost use Rattle.reading.specs.Reads.{pitchRepaired, fromWords, byClass, read};
+ghost use Rattle.reading.specs.Reads.{fromWords, byClass, read};
 
 // A voiced frame: the bits as they stand.
 fn voiced(word: u64, pitch: u8) -> Reading
@@ -27,17 +27,6 @@ fn voiced(word: u64, pitch: u8) -> Reading
     let d = part(word, 21, 4);
     let set = ParameterSet::Voiced(indices(word, a, b, c, d), voicing(word, pitch));
     Reading::Accepted(set, 0)
-}
-
-// The repaired count of the unvoiced pitch code in the low seven bits of a number: 1 where it has a single one.
-fn pitch_repaired(code: u8) -> u8
-    ensures { λ r. ⌜ (r ≡ pitchRepaired (bits 7 code)) × (r ≤ 1) ⌝ }
-{
-    if u8::count_ones(code % 128) == 1 {
-        1
-    } else {
-        0
-    }
 }
 
 // An unvoiced frame, from what its four words are read as.

@@ -3,15 +3,15 @@
 use mathlib.Core.Path.{_≡_, refl}
 use mathlib.Core.Bool.{Bool, false}
 use Prim.Native.Nat.{ℕ}
-use lib.Dec.{T, ltb, lt→ltb}
-use Rattle.bits.proofs.Every.{and-both}
-use Rattle.sets.specs.Sets.{indicesIn, inRange}
+use lib.Dec.{T}
+use Rattle.sets.specs.Sets.{inRange}
 use Rattle.sets.specs.declared.ParameterSet.{ParameterSet}
 use Rattle.sets.proofs.Ranges.{set-ranges}
 use Rattle.reading.specs.declared.Reading.{Reading}
 use Rattle.reading.specs.declared.Reading.the-variants.{Accepted, Erased}
-use Rattle.reading.proofs.Fits.{readingFits}
+use Rattle.reading.specs.Reads.{readingFits}
 use Rattle.records.specs.Records.{fresh, valid}
+use Rattle.records.proofs.Validity.{ranges-valid}
 use Rattle.records.specs.declared.Record.{Record}
 use Rattle.receiver.specs.Steps.{accepted, repeated, step}
 use Rattle.receiver.specs.declared.FrameResult.{FrameResult}
@@ -33,7 +33,7 @@ step-answers r sync Erased = refl
 -- accepting a set in range leaves a valid record, whatever was there
 pub accepted-valid : (r : Record) (sync : Bool) (set : ParameterSet) (k : ℕ) → T (inRange set) → T (valid (accepted r sync set k .next))
 unfolding accepted
-accepted-valid r sync set k t = and-both (inRange set) (ltb (indicesIn set .g2) 32) t (lt→ltb (indicesIn set .g2) 32 (set-ranges set t .g2))
+accepted-valid r sync set k t = ranges-valid (accepted r sync set k .next) t (set-ranges set t .g2)
 
 -- a step leaves a valid record valid: a repeat leaves its last set and G2
 pub step-valid : (r : Record) (sync : Bool) (x : Reading) → T (valid r) → T (readingFits x) → T (valid (step r sync x .next))

@@ -7,13 +7,12 @@ use Rattle.sets.specs.declared.ParameterSet.{ParameterSet}
 use Rattle.sets.specs.declared.ParameterSet.the-variants.{Unvoiced, Voiced}
 use Rattle.reading.specs.declared.Reading.{Reading}
 use Rattle.reading.specs.declared.Reading.the-variants as reading
-use Rattle.records.specs.declared.FrameKind.the-variants.{Accepted, Repeat}
 use Rattle.receiver.specs.declared.Kind.{Kind}
 use Rattle.receiver.specs.declared.Kind.the-variants as kind
 use Rattle.records.specs.declared.Record.{Record}
 use Rattle.receiver.specs.declared.ReceiveAnswer.the-variants.{Result}
 use Rattle.receiver.specs.declared.Received.{Received}
-use Rattle.records.specs.Records.{pushed, muted}
+use Rattle.records.specs.Records.{acceptedKind, repeatedKind, pushed, muted}
 
 -- the kind of an accepted frame
 abbrev pub kindOf : ParameterSet → Kind
@@ -28,11 +27,11 @@ accepted r sync set repaired = record {
     set = set;
     first = firstLevel (indicesIn set .g2) (indicesIn set .g1) (r .g2);
     second = level (indicesIn set .g2);
-    mute = muted (pushed (r .kinds) Accepted);
+    mute = muted (pushed (r .kinds) acceptedKind);
     sync = sync;
     repaired = repaired;
   });
-  next = record { last = set; g2 = indicesIn set .g2; kinds = pushed (r .kinds) Accepted };
+  next = record { last = set; g2 = indicesIn set .g2; kinds = pushed (r .kinds) acceptedKind };
 }
 
 -- a repeat: the last set is the result, both levels are that of the last G2, and last set and G2 stay
@@ -43,11 +42,11 @@ repeated r sync = record {
     set = r .last;
     first = level (r .g2);
     second = level (r .g2);
-    mute = muted (pushed (r .kinds) Repeat);
+    mute = muted (pushed (r .kinds) repeatedKind);
     sync = sync;
     repaired = 0;
   });
-  next = record { last = r .last; g2 = r .g2; kinds = pushed (r .kinds) Repeat };
+  next = record { last = r .last; g2 = r .g2; kinds = pushed (r .kinds) repeatedKind };
 }
 
 -- a frame that is not erased is accepted, an erased one is a repeat

@@ -2,6 +2,8 @@
 //
 //   receiving  the calls
 //   steps      what an accepted frame and a repeat yield, and the record they leave
+//   levels     the levels of codes in range
+mod levels;
 mod receiving;
 mod steps;
 

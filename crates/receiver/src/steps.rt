@@ -3,8 +3,8 @@ use crate::FrameResult;
 use crate::Kind;
 use crate::ReceiveAnswer;
 use crate::Received;
-use gain::first_level_of;
-use gain::level_of;
+use crate::levels::first_level_of;
+use crate::levels::level_of;
 use reading::Reading;
 use records::FrameKind;
 use records::Record;
@@ -13,6 +13,10 @@ use records::push;
 use sets::ParameterSet;
 use sets::indices_of;
 ghost use mathlib.Core.Path.{_≡_};
+ghost use mathlib.Core.Bool.{true};
+ghost use Rattle.sets.specs.Sets.{inRange};
+ghost use Rattle.reading.specs.Reads.{readingFits};
+ghost use Rattle.records.specs.Records.{valid};
 ghost use Rattle.receiver.specs.Steps.{kindOf, accepted, repeated, step};
 
 // The kind of an accepted frame.
@@ -28,10 +32,11 @@ fn kind_of(set: ParameterSet) -> Kind
 // An accepted frame: its set is the result, and becomes the last one. The first level goes by the G2 accepted
 // before, which the record holds.
 fn accept(rec: Record, sync: bool, set: ParameterSet, repaired: u8) -> Received
+    requires { ⌜ (valid rec ≡ true) × (inRange set ≡ true) ⌝ }
     ensures { λ r. ⌜ r ≡ accepted rec sync set repaired ⌝ }
 {
     let old = rec.kinds;
-    let kinds = push(old, FrameKind::Accepted);
+    let kinds = push(old, FrameKind { repeat: false });
     let x = indices_of(set);
     Received {
         answer: ReceiveAnswer::Result(FrameResult {
@@ -53,11 +58,12 @@ fn accept(rec: Record, sync: bool, set: ParameterSet, repaired: u8) -> Received
 
 // A repeat: the last set is the result, at the level of the last G2, and both stay.
 fn repeat(rec: Record, sync: bool) -> Received
+    requires { ⌜ valid rec ≡ true ⌝ }
     ensures { λ r. ⌜ r ≡ repeated rec sync ⌝ }
 {
     let last = rec.last;
     let old = rec.kinds;
-    let kinds = push(old, FrameKind::Repeat);
+    let kinds = push(old, FrameKind { repeat: true });
     let level = level_of(rec.g2);
     Received {
         answer: ReceiveAnswer::Result(FrameResult {
@@ -77,9 +83,9 @@ fn repeat(rec: Record, sync: bool) -> Received
     }
 }
 
-// A frame by what its bits are read as: an erased one is a repeat. Any record is taken as it stands; the calls that
-// take a frame test its ranges first.
+// A frame by what its bits are read as: an erased one is a repeat.
 pub(crate) fn step(rec: Record, sync: bool, reading: Reading) -> Received
+    requires { ⌜ (valid rec ≡ true) × (readingFits reading ≡ true) ⌝ }
     ensures { λ r. ⌜ r ≡ step rec sync reading ⌝ }
 {
     match reading {

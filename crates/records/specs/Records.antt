@@ -8,16 +8,21 @@ use Rattle.bits.specs.Bits.{addOne}
 use Rattle.sets.specs.Sets.{inRange}
 use Rattle.sets.specs.declared.ParameterSet.the-variants.{Unvoiced}
 use Rattle.records.specs.declared.FrameKind.{FrameKind}
-use Rattle.records.specs.declared.FrameKind.the-variants.{Accepted, Repeat}
-use Rattle.records.specs.declared.Past.{Past}
 use Rattle.records.specs.declared.Record.{Record}
+
+-- the kind of a frame, a repeat or not
+abbrev pub acceptedKind : FrameKind
+acceptedKind = record { repeat = false }
+
+abbrev pub repeatedKind : FrameKind
+repeatedKind = record { repeat = true }
 
 -- fresh: an unvoiced set of zeros, G2 = 0, no repeats
 unfoldable pub fresh : Record
 fresh = record {
   last = Unvoiced (record { l1 = 0; l2 = 0; l3 = 0; l4 = 0; g2 = 0; g1 = 0 });
   g2 = 0;
-  kinds = replicate 16 (record { kind = Accepted });
+  kinds = replicate 16 acceptedKind;
 }
 
 -- every field in its range: what number 4 does not refuse
@@ -25,19 +30,14 @@ abbrev pub valid : Record → Bool
 valid r = inRange (r .last) && ltb (r .g2) 32
 
 -- the kinds after a frame: the oldest goes out, this one goes in as the latest
-abbrev pub pushed : List Past → FrameKind → List Past
-pushed kinds k = drop 1 kinds ++ record { kind = k } ∷ []
+abbrev pub pushed : List FrameKind → FrameKind → List FrameKind
+pushed kinds kind = drop 1 kinds ++ kind ∷ []
 
--- whether a frame was a repeat
-abbrev pub isRepeat : FrameKind → Bool
-isRepeat Accepted = false
-isRepeat Repeat = true
-
--- how many were repeats
-abbrev pub repeats : List Past → ℕ
+-- how many are repeats
+abbrev pub repeats : List FrameKind → ℕ
 repeats [] = zero
-repeats (p ∷ ps) = addOne (isRepeat (p .kind)) (repeats ps)
+repeats (kind ∷ kinds) = addOne (kind .repeat) (repeats kinds)
 
 -- mute: at least 8 of the latest sixteen are repeats
-abbrev pub muted : List Past → Bool
+abbrev pub muted : List FrameKind → Bool
 muted kinds = leb 8 (repeats kinds)

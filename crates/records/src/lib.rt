@@ -8,15 +8,9 @@ use sets::ParameterSet;
 pub use state::fresh;
 pub use state::is_valid;
 
-// Whether a frame was a repeat or not.
-pub enum FrameKind {
-    Accepted,
-    Repeat,
-}
-
-// One of the latest frames, by its kind.
-pub struct Past {
-    pub kind: FrameKind,
+// The kind of a frame as the record keeps it: a repeat or not.
+pub struct FrameKind {
+    pub repeat: bool,
 }
 
 // What a receiver keeps: the last accepted set, the last accepted G2, and the kinds of the latest sixteen
@@ -24,5 +18,5 @@ pub struct Past {
 pub struct Record {
     pub last: ParameterSet,
     pub g2: u8,
-    pub kinds: [Past; 16],
+    pub kinds: [FrameKind; 16],
 }

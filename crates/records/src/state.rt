@@ -1,6 +1,5 @@
 // The fresh record, and the range test of a record.
 use crate::FrameKind;
-use crate::Past;
 use crate::Record;
 use sets::Indices;
 use sets::ParameterSet;
@@ -20,9 +19,7 @@ pub fn fresh() -> Record
         g2: 0,
         g1: 0,
     });
-    let kinds = [Past {
-        kind: FrameKind::Accepted,
-    }; 16];
+    let kinds = [FrameKind { repeat: false }; 16];
     Record { last, g2: 0, kinds }
 }
 

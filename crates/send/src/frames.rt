@@ -16,7 +16,7 @@ pub(crate) fn pack_sets(bytes: &[u8], out: &mut [u8]) -> usize
     ensures size { λ r. ⌜ Counts r (now (out .exit)) ⌝ }
     ensures written { λ r. ⌜ now (out .exit) ≡ sent (now (bytes .entry)) ++ drop r (now (out .entry)) ⌝ }
 {
-    let mut sync = false;
+    let mut sync = frame::fresh_sync();
     let count = bytes.len() / 11;
     for k in 0..count {
         let answer = frame::pack(set_at(bytes, 11 * k), sync, &mut out[7 * k..]);

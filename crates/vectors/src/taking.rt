@@ -5,31 +5,18 @@ use receiver::FrameResult;
 use receiver::Kind;
 use receiver::ReceiveAnswer;
 use records::FrameKind;
-use records::Past;
 use records::Record;
 use sets::ParameterSet;
 ghost use Prim.Native.Nat.{_≤_};
 
-// A kind in the record by its bit, 1 for a repeat.
-fn past_of(bit: u32) -> Past {
-    if bit == 1 {
-        return Past {
-            kind: FrameKind::Repeat,
-        };
-    }
-    Past {
-        kind: FrameKind::Accepted,
-    }
-}
-
-// The sixteen kinds by their bits, the oldest most significant.
-fn kinds_of(bits: u32) -> [Past; 16] {
-    let mut kinds = [Past {
-        kind: FrameKind::Accepted,
-    }; 16];
+// The sixteen kinds by their bits, 1 for a repeat, the oldest most significant.
+fn kinds_of(bits: u32) -> [FrameKind; 16] {
+    let mut kinds = [FrameKind { repeat: false }; 16];
     let mut left = bits;
     for i in 0..16 {
-        kinds[15 - i] = past_of(left % 2);
+        kinds[15 - i] = FrameKind {
+            repeat: left % 2 == 1,
+        };
         left = left / 2;
     }
     kinds
@@ -76,21 +63,13 @@ fn set_agrees(r: [u8; 64], start: usize, set: ParameterSet) -> bool
     same
 }
 
-// The bit of a kind in the record.
-fn bit_of(past: Past) -> u32 {
-    let kind = past.kind;
-    match kind {
-        FrameKind::Repeat => 1,
-        FrameKind::Accepted => 0,
-    }
-}
-
 // Whether the sixteen kinds have these bits.
-fn kinds_agree(kinds: [Past; 16], bits: u32) -> bool {
+fn kinds_agree(kinds: [FrameKind; 16], bits: u32) -> bool {
     let mut same = true;
     let mut left = bits;
     for i in 0..16 {
-        same = same & (bit_of(kinds[15 - i]) == left % 2);
+        let kind = kinds[15 - i];
+        same = same & (kind.repeat == (left % 2 == 1));
         left = left / 2;
     }
     same

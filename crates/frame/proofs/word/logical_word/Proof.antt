@@ -62,7 +62,7 @@ mul-result-2 : tie.Need-mul-result-2
 mul-result-2 c = search needs
 
 code-of-requires : tie.Need-code-of-requires
-code-of-requires c κs = search needs
+code-of-requires c κs = voiced-ranges (c .before .before) .1 .pitch
 
 other-bits-requires-2 : tie.Need-other-bits-requires-2
 other-bits-requires-2 c κs =

@@ -1,5 +1,9 @@
 -- `receiver::steps::accept` meets its contract: each part of the result is what its call ensures. Assumes nothing.
+use mathlib.Core.Path.{subst⁻¹}
 use borrow.Author.Needs.{needs}
+use Rattle.bits.proofs.Every.{T-true}
+use Rattle.sets.proofs.Ranges.{IndexRanges, set-ranges}
+use Rattle.records.proofs.Validity.{valid-g2}
 use Rattle.receiver.specs.Steps.{accepted}
 use Rattle.receiver.proofs.steps.accept.Statement.{statement}
 use Rattle.receiver.proofs.steps.accept.Tie as tie
@@ -13,11 +17,20 @@ indices-of-requires c κs = search needs
 kind-of-requires : tie.Need-kind-of-requires
 kind-of-requires c κs = search needs
 
+-- the set's indices are in their ranges
+ranges : (c : tie.After-indices-of) → IndexRanges (c .indices-of .result)
+ranges c =
+    let s = c .before .before .before in
+    subst⁻¹ IndexRanges (c .indices-of .ensures) (set-ranges (s .args .set) (T-true _ (s .pre .1)))
+
 first-level-of-requires : tie.Need-first-level-of-requires
-first-level-of-requires c κs = search needs
+first-level-of-requires c κs =
+    let s = c .before .before .before .before in
+    let r = ranges (c .before) in
+    (r .g2, r .g1, valid-g2 (s .args .rec) (T-true _ (s .pre .0)))
 
 level-of-requires : tie.Need-level-of-requires
-level-of-requires c κs = search needs
+level-of-requires c κs = ranges (c .before .before) .g2
 
 is-muted-requires : tie.Need-is-muted-requires
 is-muted-requires c κs = search needs

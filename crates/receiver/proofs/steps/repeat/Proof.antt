@@ -1,5 +1,7 @@
 -- `receiver::steps::repeat` meets its contract: each part of the result is what its call ensures. Assumes nothing.
 use borrow.Author.Needs.{needs}
+use Rattle.bits.proofs.Every.{T-true}
+use Rattle.records.proofs.Validity.{valid-g2}
 use Rattle.receiver.specs.Steps.{repeated}
 use Rattle.receiver.proofs.steps.repeat.Statement.{statement}
 use Rattle.receiver.proofs.steps.repeat.Tie as tie
@@ -8,7 +10,7 @@ push-requires : tie.Need-push-requires
 push-requires c κs = search needs
 
 level-of-requires : tie.Need-level-of-requires
-level-of-requires c κs = search needs
+level-of-requires c κs = valid-g2 (c .before .before .args .rec) (T-true _ (c .before .before .pre))
 
 is-muted-requires : tie.Need-is-muted-requires
 is-muted-requires c κs = search needs

@@ -1,6 +1,6 @@
--- `receiver::history::count_repeats` meets its contract: the count and the repeats still to come are all of them. Assumes nothing.
+-- `records::history::count_repeats` meets its contract: the count and the repeats still to come are all of them. Assumes nothing.
 use mathlib.Core.Path.{_≡_, ap, _∙_}
-use mathlib.Core.Logic.{⊎-elim}
+use mathlib.Core.Bool.{Bool, true, false}
 use mathlib.Core.List.{List, []}
 use Prim.Native.Nat.{ℕ, _+_, _-_, _≤_, _<_}
 use native.Mathlib.Numerals.{add-one}
@@ -8,25 +8,21 @@ use native.Mathlib.Omega.{arith}
 use lib.ListN.{length, drop, getD, drop-of-length-le}
 use lib.Seq.{drop-cons}
 use borrow.Author.Needs.{needs}
-use Rattle.bits.specs.Bits.{addOne}
-use Rattle.records.specs.Records.{isRepeat, repeats}
+use Rattle.bits.specs.Bits.{bitNum, addOne}
+use Rattle.records.specs.Records.{acceptedKind, repeats}
 use Rattle.records.specs.declared.FrameKind.{FrameKind}
-use Rattle.records.specs.declared.FrameKind.the-variants.{Accepted}
-use Rattle.records.specs.declared.Past.{Past}
 use Rattle.records.proofs.history.count_repeats.Statement.{statement}
 use Rattle.records.proofs.history.count_repeats.Tie as tie
 
--- what an array is read as past its end
-abbrev z : Past
-z = record { kind = Accepted }
+-- the repeats from place i on, by the kind at i
+from-place : (kinds : List FrameKind) (i : ℕ) → i < length kinds
+    → repeats (drop i kinds) ≡ addOne (getD kinds i acceptedKind .repeat) (repeats (drop (i + 1) kinds))
+from-place kinds i h = rw add-one (ap repeats (drop-cons kinds i acceptedKind h))
 
--- the repeats from place i on, where the kind at i is k
-from-place : (kinds : List Past) (i : ℕ) (k : FrameKind) → i < length kinds → getD kinds i z .kind ≡ k
-    → repeats (drop i kinds) ≡ addOne (isRepeat k) (repeats (drop (i + 1) kinds))
-from-place kinds i k h e =
-    let d : repeats (drop i kinds) ≡ addOne (isRepeat (getD kinds i z .kind)) (repeats (drop (i + 1) kinds)) =
-    rw add-one (ap repeats (drop-cons kinds i z h)) in
-    d ∙ ap (λ (x : FrameKind). addOne (isRepeat x) (repeats (drop (i + 1) kinds))) e
+-- one more is a bit more
+add-bit : (b : Bool) (n : ℕ) → addOne b n ≡ bitNum b + n
+add-bit true n = omega arith
+add-bit false n = omega arith
 
 abbrev Inv-loop : tie.InvT-loop
 Inv-loop kinds n₀ i₀ n i = (i ≤ 16) × (n ≤ i) × (length kinds ≡ 16) × (n + repeats (drop i kinds) ≡ repeats kinds)
@@ -37,17 +33,14 @@ abbrev μ-loop : tie.MeasureT-loop
 loop-holds : tie.Need-loop-holds Inv-loop μ-loop
 loop-holds c = search needs
 
-array-copy-out-past : tie.Need-array-copy-out-past Inv-loop μ-loop
-array-copy-out-past c = search needs
+array-copy-out-kind : tie.Need-array-copy-out-kind Inv-loop μ-loop
+array-copy-out-kind c = search needs
 
-enum-told : tie.Need-enum-told Inv-loop μ-loop
-enum-told c = search needs
+bit-number-requires : tie.Need-bit-number-requires Inv-loop μ-loop
+bit-number-requires c κs = search needs
 
 add-n : tie.Need-add-n Inv-loop μ-loop
 add-n c = search needs
-
-enum-told-2 : tie.Need-enum-told-2 Inv-loop μ-loop
-enum-told-2 c = search needs
 
 add-i : tie.Need-add-i Inv-loop μ-loop
 add-i c = search needs
@@ -60,7 +53,8 @@ loop-again c =
     let i = c .before .before .before .loop .i in
     let k = c .before .before .before .before .args .t1 in
     let h : i < length k = omega arith in
-    ⊎-elim (λ w. omega (arith, w .2, from-place k i _ h (w .1 .given .1))) (λ w. omega (arith, w .2, from-place k i _ h (w .1 .given .1))) (c .match .came)
+    let e = from-place k i h ∙ add-bit (getD k i acceptedKind .repeat) (repeats (drop (i + 1) k)) in
+    (search needs, search needs, search needs, omega (arith, e, c .bit-number .ensures .0))
 
 returns : tie.Need-returns Inv-loop μ-loop
 returns c =
@@ -71,5 +65,4 @@ returns c =
     omega (arith, ap repeats d)
 
 pub count-repeats-spec : {M : Type 1} → statement M
-count-repeats-spec =
-    tie.close (tie.spec Inv-loop μ-loop loop-holds array-copy-out-past enum-told add-n enum-told-2 add-i loop-less loop-again returns)
+count-repeats-spec = tie.close (tie.spec Inv-loop μ-loop loop-holds array-copy-out-kind bit-number-requires add-n add-i loop-less loop-again returns)

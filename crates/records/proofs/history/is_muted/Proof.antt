@@ -1,4 +1,4 @@
--- `receiver::history::is_muted` meets its contract: it is the test of the count. Assumes nothing.
+-- `records::history::is_muted` meets its contract: it is the test of the count. Assumes nothing.
 use mathlib.Core.Path.{ap}
 use lib.Dec.{leb}
 use borrow.Author.Needs.{needs}

@@ -1,4 +1,4 @@
--- `receiver::history::push` meets its contract: after i turns the first i kinds are those of the list without its oldest, and
+-- `records::history::push` meets its contract: after i turns the first i kinds are those of the list without its oldest, and
 -- the others are the new one. Assumes nothing.
 use mathlib.Core.Path.{_≡_, sym, ap, ap₂, _∙_}
 use mathlib.Core.List.{List, _++_}
@@ -8,14 +8,14 @@ use lib.ListN.{length, getD, take, drop, set, replicate, length-drop}
 use lib.Seq.{getD-drop}
 use borrow.Author.Needs.{needs}
 use Rattle.bits.proofs.Front.{front-more, front-all}
-use Rattle.records.specs.declared.FrameKind.the-variants.{Accepted}
-use Rattle.records.specs.declared.Past.{Past}
+use Rattle.records.specs.Records.{acceptedKind}
+use Rattle.records.specs.declared.FrameKind.{FrameKind}
 use Rattle.records.proofs.history.push.Statement.{statement}
 use Rattle.records.proofs.history.push.Tie as tie
 
 -- what an array is read as past its end
-abbrev z : Past
-z = record { kind = Accepted }
+abbrev z : FrameKind
+z = acceptedKind
 
 abbrev Inv-loop : tie.InvT-loop
 Inv-loop kinds next₀ i₀ next i = (i ≤ 15) × (length kinds ≡ 16) × (next ≡ take i (drop 1 kinds) ++ drop i next₀)
@@ -45,18 +45,18 @@ loop-again : tie.Need-loop-again Inv-loop μ-loop
 loop-again c =
     let L = c .before .before .loop in
     let k = c .before .before .before .args .t1 in
-    let new : List Past = replicate 16 (record { kind = c .before .before .before .args .kind }) in
+    let new : List FrameKind = replicate 16 (c .before .before .before .args .kind) in
     let h : L .i < length new = omega arith in
     let m : L .i < length (drop 1 k) = simp length-drop (omega arith) in
     let e : getD k (L .i + 1) z ≡ getD (drop 1 k) (L .i) z = ap (λ (j : ℕ). getD k j z) (omega arith) ∙ sym (getD-drop 1 k (L .i) z) in
-    (search needs, search needs, ap₂ (λ (t : List Past) (x : Past). set t (L .i) x) (L .inv .2) e ∙ front-more (drop 1 k) new (L .i) z h m)
+    (search needs, search needs, ap₂ (λ (t : List FrameKind) (x : FrameKind). set t (L .i) x) (L .inv .2) e ∙ front-more (drop 1 k) new (L .i) z h m)
 
 returns : tie.Need-returns Inv-loop μ-loop
 returns c =
     let L = c .before .loop in
     let s = c .before .before .args in
     let m : length (drop 1 (s .t1)) ≤ 15 = simp length-drop (omega arith) in
-    front-all (drop 1 (s .t1)) (replicate 16 (record { kind = s .kind })) (L .next) (L .i) 15 (L .inv .2) (omega arith) m
+    front-all (drop 1 (s .t1)) (replicate 16 (s .kind)) (L .next) (L .i) 15 (L .inv .2) (omega arith) m
 
 pub push-spec : {M : Type 1} → statement M
 push-spec = tie.close (tie.spec Inv-loop μ-loop loop-holds add-next array-copy-out-next array-set-from-next add-i loop-less loop-again returns)

@@ -1,4 +1,4 @@
--- `receiver::state::fresh` meets its contract: it is the record, field by field. Assumes nothing.
+-- `records::state::fresh` meets its contract: it is the record, field by field. Assumes nothing.
 use mathlib.Core.Path.{refl}
 use Rattle.records.specs.Records.{fresh}
 use Rattle.records.proofs.state.fresh.Statement.{statement}

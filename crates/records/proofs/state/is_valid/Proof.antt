@@ -1,4 +1,4 @@
--- `receiver::state::is_valid` meets its contract: it is the two tests. Assumes nothing.
+-- `records::state::is_valid` meets its contract: it is the two tests. Assumes nothing.
 use mathlib.Core.Path.{ap}
 use mathlib.Core.Bool.{Bool, _&&_}
 use lib.Dec.{ltb}

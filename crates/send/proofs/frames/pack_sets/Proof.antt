@@ -1,11 +1,11 @@
 -- `send::frames::pack_sets` meets its contract: after k turns k frames stand in front, and a refused set or the last one ends them. Assumes nothing.
-use mathlib.Core.Path.{_≡_, refl, ap}
-use Prim.Native.Nat.{_*_, _-_, _≤_}
+use mathlib.Core.Path.{_≡_, refl, ap₂}
+use mathlib.Core.Bool.{Bool}
+use Prim.Native.Nat.{ℕ, _*_, _-_, _≤_}
 use native.Mathlib.Numerals.{add-one}
 use native.Mathlib.Omega.{arith}
 use lib.ListN.{length}
 use borrow.Author.Needs.{needs}
-use Rattle.frame.specs.Packing.{freshSync}
 use Rattle.send.specs.Sending.{setsIn, sentFrom, sent}
 use Rattle.send.proofs.Turns.{SoFar, last-owes}
 use Rattle.send.proofs.Tails.{packed-turn, refused-turn}
@@ -18,12 +18,16 @@ Inv-loop bytes out₀ sync₀ count k₀ out sync k = (count ≡ setsIn bytes) �
 abbrev μ-loop : tie.MeasureT-loop
 μ-loop bytes out₀ sync₀ count k₀ out sync k = count - k
 
+fresh-sync-requires : tie.Need-fresh-sync-requires Inv-loop μ-loop
+fresh-sync-requires c κs = search needs
+
 loop-holds : tie.Need-loop-holds Inv-loop μ-loop
 unfolding sent
 loop-holds c =
-    let a = c .before .before .args in
-    let n : setsIn (a .bytes .now) - 0 ≡ setsIn (a .bytes .now) = omega arith in
-    (refl, omega arith, c .before .before .pre, (refl, ap (sentFrom (a .bytes .now) freshSync 0) n, refl))
+    let s = c .before .before .before in
+    let bytes = s .args .bytes .now in
+    let n : setsIn bytes - 0 ≡ setsIn bytes = omega arith in
+    (refl, omega arith, s .pre, (refl, ap₂ (λ (b : Bool) (m : ℕ). sentFrom bytes b 0 m) (c .fresh-sync .ensures) n, refl))
 
 mul-set-at : tie.Need-mul-set-at Inv-loop μ-loop
 mul-set-at c = search needs
@@ -63,7 +67,7 @@ returns c =
     let p = c .before .before .before .before in
     let t = p .before .before in
     let L = t .before .before .loop in
-    let a = t .before .before .before .before .before .args in
+    let a = t .before .before .before .before .before .before .args in
     refused-turn (a .bytes .now) (a .out .now) (L .sync) (L .k) (L .out) (L .inv .3) (t .before .loop-test .taken) (L .inv .2) _ (t .set-at .ensures) _ _
     (p .pack .ensures) _ (c .enum-told .given .1)
 
@@ -78,7 +82,7 @@ loop-again c =
     let p = c .before .before .before .before .before in
     let t = p .before .before in
     let L = t .before .before .loop in
-    let a = t .before .before .before .before .before .args in
+    let a = t .before .before .before .before .before .before .args in
     let m = packed-turn (a .bytes .now) (a .out .now) (L .sync) (L .k) (L .out) (L .inv .3) (t .before .loop-test .taken) (L .inv .2) _ (t .set-at .ensures) _ _
     (p .pack .ensures) _ (c .before .answer .given .1) in
     rw add-one (L .inv .0, omega arith, L .inv .2, m)
@@ -92,7 +96,7 @@ same-length-2 c = search needs
 returns-2 : tie.Need-returns-2 Inv-loop μ-loop
 returns-2 c =
     let L = c .before .loop in
-    let a = c .before .before .before .before .args in
+    let a = c .before .before .before .before .before .args in
     let e : L .k ≡ setsIn (a .bytes .now) = omega (arith, c .loop-test .left) in
     let le : 7 * L .k ≤ length (L .out) = omega (arith, L .inv) in
     rw e at (last-owes (a .bytes .now) (a .out .now) (L .sync) (L .k) (L .out) (L .inv .3) le (omega arith))
@@ -103,6 +107,7 @@ pack-sets-spec =
     (tie.spec
     Inv-loop
     μ-loop
+    fresh-sync-requires
     loop-holds
     mul-set-at
     set-at-requires

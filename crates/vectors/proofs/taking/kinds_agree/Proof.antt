@@ -13,14 +13,11 @@ abbrev μ-loop : tie.MeasureT-loop
 loop-holds : tie.Need-loop-holds Inv-loop μ-loop
 loop-holds c = search needs
 
-sub-bit-of : tie.Need-sub-bit-of Inv-loop μ-loop
-sub-bit-of c = search needs
+sub-kind : tie.Need-sub-kind Inv-loop μ-loop
+sub-kind c = search needs
 
-array-copy-out-bit-of : tie.Need-array-copy-out-bit-of Inv-loop μ-loop
-array-copy-out-bit-of c = search needs
-
-bit-of-requires : tie.Need-bit-of-requires Inv-loop μ-loop
-bit-of-requires c κs = search needs
+array-copy-out-kind : tie.Need-array-copy-out-kind Inv-loop μ-loop
+array-copy-out-kind c = search needs
 
 add-i : tie.Need-add-i Inv-loop μ-loop
 add-i c = search needs
@@ -41,9 +38,8 @@ kinds-agree-spec =
     Inv-loop
     μ-loop
     loop-holds
-    sub-bit-of
-    array-copy-out-bit-of
-    bit-of-requires
+    sub-kind
+    array-copy-out-kind
     add-i
     loop-less
     loop-again

@@ -15,9 +15,6 @@ abbrev μ-loop : tie.MeasureT-loop
 loop-holds : tie.Need-loop-holds Inv-loop μ-loop
 loop-holds c = search needs
 
-past-of-requires : tie.Need-past-of-requires Inv-loop μ-loop
-past-of-requires c κs = search needs
-
 sub-kinds : tie.Need-sub-kinds Inv-loop μ-loop
 sub-kinds c = search needs
 
@@ -43,7 +40,6 @@ kinds-of-spec =
     Inv-loop
     μ-loop
     loop-holds
-    past-of-requires
     sub-kinds
     array-set-from-kinds
     add-i

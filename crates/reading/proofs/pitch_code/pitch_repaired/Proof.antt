@@ -1,12 +1,12 @@
--- `frame::unpacking::pitch_repaired` meets its contract: it goes by the count of ones. Assumes nothing.
+-- `frame::pitch_code::pitch_repaired` meets its contract: it goes by the count of ones. Assumes nothing.
 use mathlib.Core.Path.{sym, ap, _∙_}
 use mathlib.Core.Bool.{Bool, cond}
 use native.Mathlib.Omega.{arith}
 use borrow.Author.Tests.{eq-eqb, ne-eqb}
 use Rattle.bits.specs.Bits.{ones, bits}
 use Rattle.pitch.proofs.ByOnes.{count-low}
-use Rattle.reading.proofs.unpacking.pitch_repaired.Statement.{statement}
-use Rattle.reading.proofs.unpacking.pitch_repaired.Tie as tie
+use Rattle.reading.proofs.pitch_code.pitch_repaired.Statement.{statement}
+use Rattle.reading.proofs.pitch_code.pitch_repaired.Tie as tie
 
 returns : tie.Need-returns
 returns c =
