@@ -1,2 +1,3 @@
 pub mod Muted
 pub mod Proved
+pub mod WorkedOut

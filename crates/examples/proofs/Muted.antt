@@ -6,12 +6,14 @@ use mathlib.Core.List.{List, [], _∷_, map}
 use Prim.Native.Nat.{ℕ, zero, suc}
 use lib.Dec.{T}
 use lib.ListN.{length}
-use Rattle.order.specs.Order.{defaultOrder, logicalBit}
-use Rattle.records.specs.Records.{fresh, valid, pushed, muted}
+use Rattle.pitch.specs.Pitch.{index, classOf}
+use Rattle.hamming.specs.Word.{fixOf, decode}
+use Rattle.order.specs.Order.{placeOf, orderBy, defaultOrder, bitAt, logicalBit, through}
+use Rattle.reading.specs.Reads.{read}
+use Rattle.records.specs.Records.{repeatedKind, fresh, valid, pushed, muted}
 use Rattle.receiver.specs.Steps.{repeated, step}
 use Rattle.receiver.specs.Receiving.{receive}
-use Rattle.records.specs.declared.FrameKind.the-variants.{Repeat}
-use Rattle.records.specs.declared.Past.{Past}
+use Rattle.records.specs.declared.FrameKind.{FrameKind}
 use Rattle.records.specs.declared.Record.{Record}
 use Rattle.receiver.specs.declared.Received.{Received}
 use Rattle.receiver.proofs.Taken.{not-refused, receive-taken}
@@ -21,9 +23,9 @@ use Rattle.bits.specs.Lists.{Every}
 use Rattle.examples.specs.Examples.{Erases, muteIn, Mutes}
 
 -- mute after each of n repeats
-abbrev mutesFrom : List Past → ℕ → List Bool
+abbrev mutesFrom : List FrameKind → ℕ → List Bool
 mutesFrom kinds zero = []
-mutesFrom kinds (suc n) = muted (pushed kinds Repeat) ∷ mutesFrom (pushed kinds Repeat) n
+mutesFrom kinds (suc n) = muted (pushed kinds repeatedKind) ∷ mutesFrom (pushed kinds repeatedKind) n
 
 -- an erased frame is a repeat
 erased-repeats : (r : Record) (bytes : List ℕ) → T (valid r) → Erases bytes → receive defaultOrder r bytes ≡ repeated r (logicalBit defaultOrder bytes 53)
@@ -39,8 +41,8 @@ erased-mutes (b ∷ bs) r v h =
     let here = ap (λ (y : Received). muteIn (answerOf (y .answer))) e in
     let rest = ap (λ (y : Received). map (λ o. muteIn (o .answer)) (outcomes (receiveModel defaultOrder) (y .next) bs)) e in
     ap₂ (λ (m : Bool) (ms : List Bool). m ∷ ms) here
-    (rest ∙ erased-mutes bs (record { last = r .last; g2 = r .g2; kinds = pushed (r .kinds) Repeat }) v (h .1))
+    (rest ∙ erased-mutes bs (record { last = r .last; g2 = r .g2; kinds = pushed (r .kinds) repeatedKind }) v (h .1))
 
 pub mutes : Mutes
-unfolding fresh
-mutes = record { eight = λ frames n h. erased-mutes frames fresh fresh-valid h ∙ ap (mutesFrom (fresh .kinds)) n }
+unfolding fresh index classOf fixOf decode placeOf orderBy defaultOrder bitAt through read
+mutes = record { erased = record { taken = refl; erased = refl }; eight = λ frames n h. erased-mutes frames fresh fresh-valid h ∙ ap (mutesFrom (fresh .kinds)) n }

@@ -12,13 +12,14 @@ use Rattle.reading.specs.Reads.{read}
 use Rattle.records.specs.Records.{fresh}
 use Rattle.receiver.specs.Steps.{accepted, repeated}
 use Rattle.receiver.specs.Receiving.{receive}
-use Rattle.spectra.specs.Values.{raised}
+use Rattle.codebook.specs.Rows.{stageStart, allFit}
+use Rattle.spectra.specs.Values.{added, raised, lsfValues, lsfAnswer, lsfWrites}
 use Rattle.examples.specs.Examples.{Examples}
 use Rattle.examples.proofs.Muted.{mutes}
 
 pub examples : Examples
 unfolding index classOf classAnswer fixOf decode firstLevel firstLevelAnswer nearest chosenG1 chooseAnswer placeOf orderBy defaultOrder frameOf bitAt through
-    words others unvoicedWords logical packAnswer packWrites read fresh accepted repeated receive raised
+    words others unvoicedWords logical packAnswer packWrites read fresh accepted repeated receive stageStart allFit added raised lsfValues lsfAnswer lsfWrites
 examples = record {
   example-1 = record { zero-ones = refl; one-one = refl; two-ones = refl; lowest = refl; middle = refl; highest = refl };
   example-2 = record { parity = refl; one-flip = refl; two-flips = refl; three-flips = refl };
@@ -27,6 +28,6 @@ examples = record {
   example-5 = record { on-threshold = refl; above = refl };
   example-6 = record { ninety-answer = refl; ninety-packed = refl };
   example-7 = record { repaired = refl; repeats = refl };
-  example-8 = record { second-raised = refl };
+  example-8 = record { answer = refl; second-raised = refl };
   example-9 = mutes;
 }

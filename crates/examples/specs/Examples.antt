@@ -2,7 +2,7 @@
 use Prim.Native.Nat.{ℕ, _*_}
 use mathlib.Core.Path.{_≡_}
 use mathlib.Core.Bool.{Bool, true, false}
-use mathlib.Core.List.{List, [], _∷_, map}
+use mathlib.Core.List.{List, [], _∷_, _++_, map}
 use lib.Dec.{eqb}
 use lib.IntN.{ℤ, pos}
 use lib.ListN.{length, replicate}
@@ -14,7 +14,7 @@ use Rattle.hamming.specs.Word.{parityOf, encode, flipAt, decode}
 use Rattle.hamming.specs.declared.Decoded.the-variants.{Read, Erased}
 use Rattle.order.specs.Order.{times, defaultOrder, logicalBit, frameRefusal, through}
 use Rattle.gain.specs.Levels.{firstLevelAnswer}
-use Rattle.quantiser.specs.Choice.{chosenG2, chooseAnswer}
+use Rattle.quantiser.specs.Choice.{chooseAnswer}
 use Rattle.quantiser.specs.declared.CodesAnswer.the-variants.{Codes}
 use Rattle.gain.specs.declared.LevelAnswer.the-variants.{Level}
 use Rattle.frame.specs.Packing.{freshSync, packAnswer, packWrites}
@@ -28,7 +28,8 @@ use Rattle.receiver.specs.Receiving.{receive}
 use Rattle.receiver.specs.declared.FrameResult.{FrameResult}
 use Rattle.receiver.specs.declared.Kind.the-variants as kind
 use Rattle.receiver.specs.declared.ReceiveAnswer.the-variants.{Result}
-use Rattle.spectra.specs.Values.{spacing, raised}
+use Rattle.spectra.specs.Values.{lsfAnswer, lsfWrites}
+use Rattle.spectra.specs.declared.ValuesAnswer.the-variants.{Written}
 use Rattle.calls.specs.Model.{Answer, done, refused, outcomes, receiveModel}
 use Rattle.bits.specs.Lists.{Every}
 
@@ -60,10 +61,10 @@ pub record FirstLevels : Type 0 where
   pub steady : chooseAnswer (pos 6639) (pos 6282) 10 ≡ Codes 11 0
   pub transition : chooseAnswer (pos 6640) (pos 6282) 10 ≡ Codes 11 5
 
--- 5: second codes on both sides of a threshold
+-- 5: second codes on both sides of a threshold, in a sender that starts; the first level is the same
 pub record SecondCodes : Type 0 where
-  pub on-threshold : chosenG2 (pos 2061) ≡ 0
-  pub above : chosenG2 (pos 2062) ≡ 1
+  pub on-threshold : chooseAnswer (pos 2061) (pos 2061) 0 ≡ Codes 0 0
+  pub above : chooseAnswer (pos 2062) (pos 2062) 0 ≡ Codes 1 0
 
 -- 6: the frame of L1 = 90, G2 = 11, all else 0, unvoiced, from a fresh sender
 abbrev pub ninety : ParameterSet
@@ -76,7 +77,10 @@ pub record Frames : Type 0 where
   pub ninety-answer : packAnswer ninety freshSync 7 ≡ Packed true
   pub ninety-packed : packWrites ninety freshSync (replicate 7 0) ≡ ninetyBytes
 
--- 7: that frame with two places changed, in a fresh receiver: as sent and both flips counted, or a repeat of the fresh record's set
+-- 7: that frame with two places changed, in a fresh receiver: as sent and both flips counted, or a repeat, which shows a set of zeros
+abbrev pub zeros : ParameterSet
+zeros = Unvoiced (record { l1 = 0; l2 = 0; l3 = 0; l4 = 0; g2 = 0; g1 = 0 })
+
 abbrev pub changed : List ℕ → List ℕ
 changed places = through (λ t. eqb (times t places) 1) ninetyBytes
 
@@ -92,7 +96,7 @@ pub record TwoFlips : Type 0 where
   })
   pub repeats : receive defaultOrder fresh (changed (0 ∷ 7 ∷ [])) .answer ≡ Result (record {
     kind = kind.Repeat;
-    set = fresh .last;
+    set = zeros;
     first = 1860;
     second = 1860;
     mute = false;
@@ -100,12 +104,16 @@ pub record TwoFlips : Type 0 where
     repaired = 0;
   })
 
--- 8: ten sums in hertz, of which the second is too close to the first
+-- 8: ten sums in hertz, of which the second is too close to the first: the row of L1 = 0 in a codebook that has 0 everywhere else
 abbrev pub millionths : List ℕ → List ℤ
 millionths hertz = map (λ n. pos (1000000 * n)) hertz
 
+abbrev pub codebook : List ℤ
+codebook = millionths (300 ∷ 340 ∷ 500 ∷ 800 ∷ 1100 ∷ 1400 ∷ 1700 ∷ 2000 ∷ 2300 ∷ 2600 ∷ []) ++ replicate 3190 (pos 0)
+
 pub record Spacing : Type 0 where
-  pub second-raised : raised spacing (millionths (300 ∷ 340 ∷ 500 ∷ 800 ∷ 1100 ∷ 1400 ∷ 1700 ∷ 2000 ∷ 2300 ∷ 2600 ∷ []))
+  pub answer : lsfAnswer zeros codebook 10 ≡ Written
+  pub second-raised : lsfWrites zeros codebook (replicate 10 (pos 0))
       ≡ millionths (300 ∷ 350 ∷ 500 ∷ 800 ∷ 1100 ∷ 1400 ∷ 1700 ∷ 2000 ∷ 2300 ∷ 2600 ∷ [])
 
 -- 9: any eight erased frames from fresh; the seventh is not mute, the eighth is
@@ -118,6 +126,8 @@ muteIn (done x) = x .mute
 muteIn (refused n) = false
 
 pub record Mutes : Type 0 where
+  -- one such frame: that of example 7 with places 0 and 7 changed
+  pub erased : Erases (changed (0 ∷ 7 ∷ []))
   pub eight : (frames : List (List ℕ)) → length frames ≡ 8 → Every Erases frames
       → map (λ o. muteIn (o .answer)) (outcomes (receiveModel defaultOrder) fresh frames)
       ≡ false ∷ false ∷ false ∷ false ∷ false ∷ false ∷ false ∷ true ∷ []

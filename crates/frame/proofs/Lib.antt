@@ -6,3 +6,4 @@ pub mod Ordered
 pub mod Neighbours
 pub mod Numbers
 pub mod Packed
+pub mod Flips

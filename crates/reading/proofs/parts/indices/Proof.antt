@@ -1,4 +1,4 @@
--- `frame::parts::indices` meets its contract: the data are joined, and the other bits are parts. Assumes nothing.
+-- `reading::parts::indices` meets its contract: the data are joined, and the other bits are parts. Assumes nothing.
 use Prim.Native.Nat.{_+_, _*_, _/_, _%_}
 use native.Mathlib.Omega.{arith}
 use borrow.Author.Needs.{needs}

@@ -1,4 +1,4 @@
--- `frame::parts::part` meets its contract: what stands below the part is shifted out, and what stands above it is taken off. Assumes nothing.
+-- `reading::parts::part` meets its contract: what stands below the part is shifted out, and what stands above it is taken off. Assumes nothing.
 use mathlib.Core.Path.{_≡_, ap, _∙_, subst⁻¹}
 use Prim.Native.Nat.{ℕ, _+_, _*_, _-_, _/_, _%_, _^_, _≤_, _<_}
 use native.Mathlib.Nat.{mod-lt}

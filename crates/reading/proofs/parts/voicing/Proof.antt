@@ -1,4 +1,4 @@
--- `frame::parts::voicing` meets its contract: the Fourier index is joined from its three parts, and the others are parts. Assumes nothing.
+-- `reading::parts::voicing` meets its contract: the Fourier index is joined from its three parts, and the others are parts. Assumes nothing.
 use native.Mathlib.Omega.{arith}
 use Rattle.order.specs.Word.{wordBit}
 use Rattle.reading.proofs.Cuts.{fourier-is}

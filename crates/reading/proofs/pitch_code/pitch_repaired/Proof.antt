@@ -1,4 +1,4 @@
--- `frame::pitch_code::pitch_repaired` meets its contract: it goes by the count of ones. Assumes nothing.
+-- `reading::pitch_code::pitch_repaired` meets its contract: it goes by the count of ones. Assumes nothing.
 use mathlib.Core.Path.{sym, ap, _∙_}
 use mathlib.Core.Bool.{Bool, cond}
 use native.Mathlib.Omega.{arith}

@@ -1,4 +1,4 @@
--- `frame::unpacking::from_words` meets its contract: an erased word erases the frame, else the data and the repaired counts are within bounds.
+-- `reading::unpacking::from_words` meets its contract: an erased word erases the frame, else the data and the repaired counts are within bounds.
 -- Assumes nothing.
 use mathlib.Core.Path.{sym, ap, _∙_}
 use mathlib.Core.Bool.{Bool}

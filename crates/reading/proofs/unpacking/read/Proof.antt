@@ -1,4 +1,4 @@
--- `frame::unpacking::read` meets its contract: each class goes its way. Assumes nothing.
+-- `reading::unpacking::read` meets its contract: each class goes its way. Assumes nothing.
 use mathlib.Core.Path.{_≡_, sym, ap, _∙_}
 use Prim.Native.Nat.{ℕ}
 use Rattle.pitch.specs.Pitch.{classOf}

@@ -1,4 +1,4 @@
--- `frame::unpacking::unvoiced` meets its contract: each word is decoded from its bits. Assumes nothing.
+-- `reading::unpacking::unvoiced` meets its contract: each word is decoded from its bits. Assumes nothing.
 use mathlib.Core.Path.{_≡_, ap, _∙_}
 use Prim.Native.Nat.{ℕ}
 use Rattle.bits.specs.Bits.{cut}

@@ -1,4 +1,4 @@
--- `frame::unpacking::voiced` meets its contract: the data and the voicing are those of the bits as they stand. Assumes nothing.
+-- `reading::unpacking::voiced` meets its contract: the data and the voicing are those of the bits as they stand. Assumes nothing.
 use mathlib.Core.Path.{ap₂, _∙_}
 use Rattle.order.specs.Word.{wordBit}
 use Rattle.reading.specs.Reads.{indicesOf}

@@ -1,4 +1,4 @@
--- `frame::range::indices_fit` meets its contract: it is the six tests. Assumes nothing.
+-- `sets::range::indices_fit` meets its contract: it is the six tests. Assumes nothing.
 use borrow.Author.Needs.{needs}
 use Rattle.sets.proofs.range.indices_fit.Statement.{statement}
 use Rattle.sets.proofs.range.indices_fit.Tie as tie

@@ -1,4 +1,4 @@
--- `frame::range::indices_of` meets its contract: each arm hands out the set's own. Assumes nothing.
+-- `sets::range::indices_of` meets its contract: each arm hands out the set's own. Assumes nothing.
 use mathlib.Core.Path.{sym, ap}
 use borrow.Author.Needs.{needs}
 use Rattle.sets.specs.Sets.{indicesIn}

@@ -1,4 +1,4 @@
--- `frame::range::is_in_range` meets its contract: each arm has its tests. Assumes nothing.
+-- `sets::range::is_in_range` meets its contract: each arm has its tests. Assumes nothing.
 use mathlib.Core.Path.{sym, ap, ap₂, _∙_}
 use mathlib.Core.Bool.{Bool, _&&_}
 use borrow.Author.Needs.{needs}

@@ -1,4 +1,4 @@
--- `frame::range::is_sendable` meets its contract: each arm has its tests. Assumes nothing.
+-- `sets::range::is_sendable` meets its contract: each arm has its tests. Assumes nothing.
 use mathlib.Core.Path.{sym, ap, _∙_}
 use mathlib.Core.Bool.{Bool, not, _&&_}
 use lib.Dec.{eqb}

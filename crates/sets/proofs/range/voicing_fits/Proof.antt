@@ -1,4 +1,4 @@
--- `frame::range::voicing_fits` meets its contract: a Fourier index is below 256 by its type. Assumes nothing.
+-- `sets::range::voicing_fits` meets its contract: a Fourier index is below 256 by its type. Assumes nothing.
 use mathlib.Core.Path.{_≡_, refl, sym, ap}
 use mathlib.Core.Bool.{Bool, true, false, _&&_}
 use Prim.Native.Nat.{_<_}

@@ -1,0 +1,37 @@
+-- The worked examples hold by computation.
+-- Assumes nothing.
+use mathlib.Core.Path.{refl}
+use Rattle.pitch.specs.Pitch.{index, classOf, voicedFrom, codeOf}
+use Rattle.hamming.specs.Word.{fixOf, decode}
+use Rattle.order.specs.Order.{placeOf, orderBy, defaultOrder, frameOf, bitAt, through}
+use Rattle.gain.specs.Levels.{firstLevel}
+use Rattle.quantiser.specs.Choice.{nearest, chosenG1, chooseAnswer}
+use Rattle.frame.specs.Layout.{words, others, unvoicedWords, voicedWords, logical}
+use Rattle.frame.specs.Packing.{packAnswer, packWrites}
+use Rattle.reading.specs.Reads.{read}
+use Rattle.records.specs.Records.{fresh}
+use Rattle.receiver.specs.Steps.{accepted, repeated}
+use Rattle.receiver.specs.Receiving.{receive}
+use Rattle.examples.specs.Worked.{Worked}
+
+pub worked : Worked
+unfolding index classOf voicedFrom codeOf fixOf decode placeOf orderBy defaultOrder frameOf bitAt through firstLevel nearest chosenG1 chooseAnswer
+    words others unvoicedWords voicedWords logical packAnswer packWrites read fresh accepted repeated receive
+worked = record {
+  voiced-set = record { answer = refl; packed = refl; received = refl; bandpass-one = refl };
+  repeat = record { level-kept = refl };
+  record-range = record { highest = refl; past = refl };
+  distance = record { two = refl; three = refl };
+  limits = record {
+    highest = refl;
+    l1 = refl;
+    l2 = refl;
+    l3 = refl;
+    l4 = refl;
+    g2 = refl;
+    g1 = refl;
+    pitch = refl;
+    bandpass = refl;
+    aperiodic = refl;
+  };
+}

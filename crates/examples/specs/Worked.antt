@@ -1,0 +1,95 @@
+-- Worked examples of our own, beside document 01's nine: in each a slip in definition and code together shows. Numbers are worked out by hand
+-- from document 01.
+use Prim.Native.Nat.{ℕ}
+use mathlib.Core.Path.{_≡_}
+use mathlib.Core.Bool.{true, false}
+use mathlib.Core.List.{List, [], _∷_}
+use lib.IntN.{pos}
+use lib.ListN.{replicate}
+use Rattle.order.specs.Order.{defaultOrder}
+use Rattle.sets.specs.declared.ParameterSet.{ParameterSet}
+use Rattle.sets.specs.declared.ParameterSet.the-variants.{Voiced}
+use Rattle.quantiser.specs.Choice.{chooseAnswer}
+use Rattle.quantiser.specs.declared.CodesAnswer.the-variants.{Codes}
+use Rattle.frame.specs.Packing.{freshSync, packRefusal, packAnswer, packWrites}
+use Rattle.frame.specs.declared.PackAnswer.the-variants.{Packed}
+use Rattle.records.specs.Records.{fresh, acceptedKind}
+use Rattle.records.specs.declared.Record.{Record}
+use Rattle.receiver.specs.Receiving.{receiveRefusal, receive}
+use Rattle.receiver.specs.declared.Kind.the-variants as kind
+use Rattle.receiver.specs.declared.ReceiveAnswer.the-variants.{Result}
+use Rattle.examples.specs.Examples.{ninetyBytes, changed}
+
+-- a voiced set with fields all different, its bandpass bits B given
+abbrev pub voiced : ℕ → ParameterSet
+voiced b = Voiced (record { l1 = 77; l2 = 13; l3 = 38; l4 = 55; g2 = 21; g1 = 5 }) (record { pitch = 83; bandpass = b; fourier = 105; aperiodic = 1 })
+
+abbrev pub voicedBytes : List ℕ
+voicedBytes = 0xAE ∷ 0x28 ∷ 0xCC ∷ 0x72 ∷ 0x67 ∷ 0xFE ∷ 0xA0 ∷ []
+
+-- its frame by a fresh sender, and what a fresh receiver makes of it; with B = 1 it is not sent
+pub record VoicedSet : Type 0 where
+  pub answer : packAnswer (voiced 2) freshSync 7 ≡ Packed true
+  pub packed : packWrites (voiced 2) freshSync (replicate 7 0) ≡ voicedBytes
+  pub received : receive defaultOrder fresh voicedBytes .answer ≡ Result (record {
+    kind = kind.Voiced;
+    set = voiced 2;
+    first = 7860;
+    second = 10302;
+    mute = false;
+    sync = false;
+    repaired = 0;
+  })
+  pub bandpass-one : packRefusal (voiced 1) 7 ≡ 5
+
+-- a record whose last set has another G2 than its last G2
+abbrev pub kept : ℕ → Record
+kept g2 = record { last = voiced 2; g2 = g2; kinds = replicate 16 acceptedKind }
+
+-- a repeat there, by example 7's frame: the last set with its own G2, at the level of the last G2, which is 6282 for G2 = 11
+pub record Repeat : Type 0 where
+  pub level-kept : receive defaultOrder (kept 11) (changed (0 ∷ 7 ∷ [])) .answer ≡ Result (record {
+    kind = kind.Repeat;
+    set = voiced 2;
+    first = 6282;
+    second = 6282;
+    mute = false;
+    sync = false;
+    repaired = 0;
+  })
+
+-- the record's G2 goes to 31
+pub record RecordRange : Type 0 where
+  pub highest : receiveRefusal (kept 31) ninetyBytes ≡ 0
+  pub past : receiveRefusal (kept 32) ninetyBytes ≡ 4
+
+-- first levels at the mean, 5880 where q = 9 and 5679 where q = 8: steady for a distance of 2, and for one of 3 the fourth of the seven levels
+pub record Distance : Type 0 where
+  pub two : chooseAnswer (pos 5880) (pos 6282) 9 ≡ Codes 11 0
+  pub three : chooseAnswer (pos 5679) (pos 6282) 8 ≡ Codes 11 4
+
+-- a voiced set by its indices, with the largest Fourier index
+abbrev pub setOf : ℕ → ℕ → ℕ → ℕ → ℕ → ℕ → ℕ → ℕ → ℕ → ParameterSet
+setOf l1 l2 l3 l4 g2 g1 p b ap =
+    Voiced (record { l1 = l1; l2 = l2; l3 = l3; l4 = l4; g2 = g2; g1 = g1 }) (record { pitch = p; bandpass = b; fourier = 255; aperiodic = ap })
+
+-- every index at its upper limit is sent; with any of them one higher the set is refused with 5
+pub record Limits : Type 0 where
+  pub highest : packRefusal (setOf 127 63 63 63 31 7 98 15 1) 7 ≡ 0
+  pub l1 : packRefusal (setOf 128 63 63 63 31 7 98 15 1) 7 ≡ 5
+  pub l2 : packRefusal (setOf 127 64 63 63 31 7 98 15 1) 7 ≡ 5
+  pub l3 : packRefusal (setOf 127 63 64 63 31 7 98 15 1) 7 ≡ 5
+  pub l4 : packRefusal (setOf 127 63 63 64 31 7 98 15 1) 7 ≡ 5
+  pub g2 : packRefusal (setOf 127 63 63 63 32 7 98 15 1) 7 ≡ 5
+  pub g1 : packRefusal (setOf 127 63 63 63 31 8 98 15 1) 7 ≡ 5
+  pub pitch : packRefusal (setOf 127 63 63 63 31 7 99 15 1) 7 ≡ 5
+  pub bandpass : packRefusal (setOf 127 63 63 63 31 7 98 16 1) 7 ≡ 5
+  pub aperiodic : packRefusal (setOf 127 63 63 63 31 7 98 15 2) 7 ≡ 5
+
+-- all together
+pub record Worked : Type 0 where
+  pub voiced-set : VoicedSet
+  pub repeat : Repeat
+  pub record-range : RecordRange
+  pub distance : Distance
+  pub limits : Limits
