@@ -36,11 +36,11 @@ words x pa pb pc pd = (dataA x ++ pa) ++ ((dataB x ++ pb) ++ ((dataC x ++ pc) ++
 unfoldable pub others : Indices → List Bool → Bool → List Bool
 others x p sync = p ++ (bits 6 (x .l2) ++ (bits 6 (x .l3) ++ (bits 6 (x .l4) ++ sync ∷ [])))
 
--- in an unvoiced frame the parity places have the parity of the data
+-- in an unvoiced frame the parity places have the parity of the data (5.4)
 unfoldable pub unvoicedWords : Indices → List Bool
 unvoicedWords x = words x (parityOf 8 (dataA x)) (parityOf 6 (dataB x)) (parityOf 7 (dataC x)) (parityOf 7 (dataD x))
 
--- in a voiced one they have the bandpass bits (A), the Fourier index from the top (B, C, D), and the aperiodic flag (D)
+-- in a voiced one they have the bandpass bits (A; 5.3.2), the Fourier index from the top (B, C, D; 5.3.5), and the aperiodic flag (D; 5.3.6)
 unfoldable pub voicedWords : Indices → Voicing → List Bool
 voicedWords x v =
     words x

@@ -61,7 +61,7 @@ fromWords g (word.Read a i) (word.Read b j) word.Erased d = Erased
 fromWords g (word.Read a i) (word.Read b j) (word.Read c k) word.Erased = Erased
 fromWords g (word.Read a i) (word.Read b j) (word.Read c k) (word.Read d l) = Accepted (Unvoiced (indicesOf g a b c d)) (pitchRepaired (pitchBits g) + i + j + k + l)
 
--- by the class of the pitch code: only under an unvoiced one are the words checked, A, then B, C and D; a voiced frame is read as it stands
+-- by the class of the pitch code (5.3.1): only under an unvoiced one are the words checked, A, then B, C and D; a voiced frame is read as it stands
 abbrev pub byClass : (ℕ → Bool) → PitchClass → Reading
 byClass g class.Unvoiced = fromWords g (decode 8 (wordA g)) (decode 6 (wordB g)) (decode 7 (wordC g)) (decode 7 (wordD g))
 byClass g class.Erased = Erased

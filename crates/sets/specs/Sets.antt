@@ -11,11 +11,11 @@ abbrev pub indicesIn : ParameterSet → Indices
 indicesIn (Unvoiced x) = x
 indicesIn (Voiced x v) = x
 
--- the ranges of the six
+-- the ranges of the six: four LSF stages of seven, six, six and six bits (5.3.4), G2 of five bits and G1 of three (5.3.3)
 abbrev pub indicesFit : Indices → Bool
 indicesFit x = ltb (x .l1) 128 && ltb (x .l2) 64 && ltb (x .l3) 64 && ltb (x .l4) 64 && ltb (x .g2) 32 && ltb (x .g1) 8
 
--- and of the four of a voiced set
+-- and of the four of a voiced set: 99 pitches (5.3.1), four bandpass bits (5.3.2), eight bits of Fourier index (5.3.5), a flag of one bit (5.3.6)
 abbrev pub voicingFits : Voicing → Bool
 voicingFits v = ltb (v .pitch) 99 && ltb (v .bandpass) 16 && ltb (v .fourier) 256 && ltb (v .aperiodic) 2
 
