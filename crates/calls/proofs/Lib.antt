@@ -8,5 +8,4 @@ pub mod Claims
 pub mod Demand3
 pub mod CodePacks
 pub mod CodeReceives
-pub mod Sessions
 pub mod TheCode

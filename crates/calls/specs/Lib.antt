@@ -3,3 +3,5 @@ pub mod Observed
 pub mod Return
 pub mod Frames
 pub mod Claim
+pub mod CodeCalls
+pub mod Demands
