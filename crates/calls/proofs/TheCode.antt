@@ -3,13 +3,15 @@
 use Rattle.order.specs.Order.{defaultOrder}
 use Rattle.order.proofs.Default.{default-order}
 use Rattle.frame.proofs.Neighbours.{seven-neighbours}
+use Rattle.frame.specs.Packing.{packAnswer, packWrites}
 use Rattle.calls.specs.Observed.{PackStep, ReceiveStep}
-use Rattle.calls.specs.CodeCalls.{CodePacks, CodeReceives}
-use Rattle.calls.specs.Demands.{Demand2, Demand3}
+use Rattle.calls.specs.CodeCalls.{CodePacks, CodeReceivesBy, CodeReceives}
+use Rattle.calls.specs.Demands.{Demand2, Demand3, SessionsHad}
 use Rattle.calls.proofs.Demand2.{defined-return, calls-return}
 use Rattle.calls.proofs.Demand3.{claim}
-use Rattle.calls.proofs.CodePacks.{code-packs}
-use Rattle.calls.proofs.CodeReceives.{code-receives}
+use Rattle.calls.proofs.CodePacks.{code-packs, pack-had}
+use Rattle.calls.proofs.CodeReceives.{code-receives, receive-had}
+use Rattle.calls.proofs.Sessions.{sessions}
 
 pub demand-2 : Demand2
 demand-2 = record {
@@ -20,3 +22,7 @@ demand-2 = record {
 
 pub demand-3 : Demand3
 demand-3 = claim defaultOrder default-order 7 seven-neighbours CodePacks code-packs CodeReceives code-receives
+
+pub sessions-had : SessionsHad
+unfolding packAnswer packWrites
+sessions-had = sessions defaultOrder CodePacks code-packs (λ s x. pack-had (x .set) s (x .lent)) CodeReceivesBy receive-had

@@ -29,7 +29,7 @@ use Rattle.receiver.specs.declared.FrameResult.{FrameResult}
 use Rattle.receiver.specs.declared.Kind.the-variants as kind
 use Rattle.receiver.specs.declared.ReceiveAnswer.the-variants.{Result}
 use Rattle.spectra.specs.Values.{spacing, raised}
-use Rattle.calls.specs.Model.{Answer, done, refused, outcomes, receiveModel}
+use Rattle.calls.specs.Model.{Answer, done, refused, outcomes, receiveModel, receiveKind}
 use Rattle.bits.specs.Lists.{Every}
 
 -- 1: classes of pitch codes
@@ -119,7 +119,7 @@ muteIn (refused n) = false
 
 pub record Mutes : Type 0 where
   pub eight : (frames : List (List ℕ)) → length frames ≡ 8 → Every Erases frames
-      → map (λ o. muteIn (o .answer)) (outcomes (receiveModel defaultOrder) fresh frames)
+      → map (λ o. muteIn (o .answer)) (outcomes (receiveModel receiveKind defaultOrder) fresh frames)
       ≡ false ∷ false ∷ false ∷ false ∷ false ∷ false ∷ false ∷ true ∷ []
 
 -- all together
