@@ -75,6 +75,7 @@ module _ (ord : List ℕ) (o : Order ord) {P : PackKind} {R : ReceiveKind} where
       ap (λ (y : Outcome FrameResult Record). y .answer) (moved ∙ ap outcomeOf e)
       ∙ sym (ap done (k .clean-is ∙ ap (λ (y : Received). resultIn (y .answer)) e)) in
       let state = ap (λ (y : Outcome FrameResult Record). y .state) moved in
-      let onward = ap (λ (t : Record). map (λ y. y .answer) (outcomes (receiveModel receiveKind ord) t (map (λ x. sent (x .packing)) ws))) state in
-      let rest = onward ∙ chain-clean _ _ _ ws (h .2) (clean-stays r u w k v) in
+      let rest =
+      subst⁻¹ (λ (t : Record). map (λ y. y .answer) (outcomes (receiveModel receiveKind ord) t (map (λ x. sent (x .packing)) ws)) ≡ map (λ x. done (x .clean)) ws)
+      state (chain-clean _ _ _ ws (h .2) (clean-stays r u w k v)) in
       λ i. here i ∷ rest i

@@ -38,13 +38,13 @@ module _ (ord : List ℕ) (o : Order ord) (width : ℕ) (spread : (fl : ℕ → 
       let f = frames in
       record {
         packed =
-            run-outcomes (λ c. c .given) packLeft (PackStep ord) (λ c. c .arguments) packOutcome (packModel P ord) (λ c k. k .outcome) (λ c. refl)
+            run-outcomes (λ c. c .given) packLeft (PackStep ord) (λ c. c .arguments) (packOutcome {P = P}) (packModel P ord) (λ c k. k .outcome) (λ c. refl)
             freshSync ps (s .packing);
         lent =
             run-every (λ c. c .given) packLeft (PackStep ord) (λ c. c .output ≡ lentAfter (packOutcome c .answer) (P .lent (c .arguments))) (λ c k. k .output)
             freshSync ps (s .packing);
         received =
-            run-outcomes (λ c. c .given) (λ c. c .left) (ReceiveStep ord) (λ c. c .arguments) receiveOutcome (receiveModel R ord) (λ c k. k) (λ c. refl)
+            run-outcomes (λ c. c .given) (λ c. c .left) (ReceiveStep ord) (λ c. c .arguments) (receiveOutcome {R = R}) (receiveModel R ord) (λ c k. k) (λ c. refl)
             start rs (s .receiving);
         rows = f .rows;
         packings = f .packings;

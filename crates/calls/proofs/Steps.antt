@@ -56,7 +56,9 @@ module _ (ord : List ℕ) where
   module _ {P : PackKind} (c : PackCall P) (k : PackStep ord c) where
     -- a packing call by the number that refuses it
     pack-by : (n : ℕ) → packCallRefusal c ≡ n → packOutcome c ≡ packUnless n ord (c .given) (setIn c)
-    pack-by n e = k .outcome ∙ ap (λ (m : ℕ). packUnless m ord (c .given) (setIn c)) e
+    pack-by n e =
+        let by-kind : packOutcome c ≡ packUnless (packCallRefusal c) ord (c .given) (setIn c) = k .outcome in
+        by-kind ∙ ap (λ (m : ℕ). packUnless m ord (c .given) (setIn c)) e
 
     -- a refused one leaves the sync bit
     pub pack-leaves : (n : ℕ) → packCallRefusal c ≡ suc n → packLeft c ≡ c .given
@@ -75,7 +77,9 @@ module _ (ord : List ℕ) where
   module _ {R : ReceiveKind} (c : ReceiveCall R) (k : ReceiveStep ord c) where
     -- a receiving call by the number that refuses it
     receive-by : (n : ℕ) → receiveCallRefusal c ≡ n → receiveOutcome c ≡ outcomeOf (receiveUnless n ord (c .given) (frameIn c))
-    receive-by n e = k ∙ ap (λ (m : ℕ). outcomeOf (receiveUnless m ord (c .given) (frameIn c))) e
+    receive-by n e =
+        let by-kind : receiveOutcome c ≡ outcomeOf (receiveUnless (receiveCallRefusal c) ord (c .given) (frameIn c)) = k in
+        by-kind ∙ ap (λ (m : ℕ). outcomeOf (receiveUnless m ord (c .given) (frameIn c))) e
 
     -- a refused one leaves the record
     pub receive-leaves : (n : ℕ) → receiveCallRefusal c ≡ suc n → c .left ≡ c .given
