@@ -22,21 +22,26 @@ use Rattle.receiver.specs.declared.ReceiveAnswer.the-variants.{Result}
 use Rattle.receiver.specs.declared.Received.{Received}
 use Rattle.receiver.proofs.Yields.{resultIn, step-answers, accepted-valid}
 use Rattle.receiver.proofs.Arrived.{packed-accepted, arrived-taken}
-use Rattle.calls.specs.Model.{Answer, done, outcomes, answerOf, receiveModel}
+use Rattle.calls.specs.Model.{Answer, done, Outcome, outcomes, PackKind, ReceiveKind, outcomeOf, receiveModel, receiveKind}
 use Rattle.calls.specs.Observed.{sent}
 use Rattle.calls.specs.Frames.{Row, setOf}
 use Rattle.calls.proofs.Rows.{Known, Chain, got}
 
-module _ (ord : List ℕ) (o : Order ord) where
+-- the model of document 01's own calls gives what the receiver gives
+model-is : (ord : List ℕ) (r : Record) (bytes : List ℕ) → receiveModel receiveKind ord r bytes ≡ outcomeOf (receive ord r bytes)
+unfolding receive
+model-is ord r bytes = refl
+
+module _ (ord : List ℕ) (o : Order ord) {P : PackKind} {R : ReceiveKind} where
   -- each row has the channel's flips of its frame
-  pub chain-flips : (r u : Record) (flips : ℕ → ℕ → Bool) (ws : List Row) → Chain ord r u flips ws → map (λ w. w .flips) ws ≡ cut flips 0 (length ws)
+  pub chain-flips : (r u : Record) (flips : ℕ → ℕ → Bool) (ws : List (Row P R)) → Chain ord r u flips ws → map (λ w. w .flips) ws ≡ cut flips 0 (length ws)
   chain-flips r u flips [] h = refl
   chain-flips r u flips (w ∷ ws) h =
       ap₂ (λ (f : ℕ → Bool) (l : List (ℕ → Bool)). f ∷ l) (h .1)
       (chain-flips _ _ (λ k. flips (suc k)) ws (h .2) ∙ sym (cut-suc flips 0 (length ws)))
 
   -- its receiving call answered with its result
-  pub chain-answers : (r u : Record) (flips : ℕ → ℕ → Bool) (ws : List Row) → Chain ord r u flips ws
+  pub chain-answers : (r u : Record) (flips : ℕ → ℕ → Bool) (ws : List (Row P R)) → Chain ord r u flips ws
       → map (λ w. w .receiving .answer) ws ≡ map (λ w. Result (w .result)) ws
   chain-answers r u flips [] h = refl
   chain-answers r u flips (w ∷ ws) h =
@@ -47,27 +52,30 @@ module _ (ord : List ℕ) (o : Order ord) where
       ap₂ (λ (a : ReceiveAnswer) (l : List ReceiveAnswer). a ∷ l) (k .answers ∙ whole ∙ ap Result (sym (k .result-is))) (chain-answers _ _ _ ws (h .2))
 
   -- what the clean receiver makes of the frame as sent
-  clean-takes : (r u : Record) (w : Row) → Known ord r u w → T (valid u)
+  clean-takes : (r u : Record) (w : Row P R) → Known ord r u w → T (valid u)
       → receive ord u (frame ord (setOf w) (w .packing .given)) ≡ accepted u (w .packing .given) (setOf w) 0
   clean-takes r u w k v = packed-accepted ord o u v (w .packing .given) (setOf w) (k .may-send)
 
   -- and keeps a valid record
-  pub clean-stays : (r u : Record) (w : Row) → Known ord r u w → T (valid u) → T (valid (receive ord u (frame ord (setOf w) (w .packing .given)) .next))
+  pub clean-stays : (r u : Record) (w : Row P R) → Known ord r u w → T (valid u) → T (valid (receive ord u (frame ord (setOf w) (w .packing .given)) .next))
   clean-stays r u w k v =
       subst⁻¹ (λ (y : Received). T (valid (y .next))) (clean-takes r u w k v)
       (accepted-valid u (w .packing .given) (setOf w) 0 (sendable-fits (setOf w) (k .may-send)))
 
   -- the clean results are what the model gives for the frames as packed
-  pub chain-clean : (r u : Record) (flips : ℕ → ℕ → Bool) (ws : List Row) → Chain ord r u flips ws → T (valid u)
-      → map (λ y. y .answer) (outcomes (receiveModel ord) u (map (λ w. sent (w .packing)) ws)) ≡ map (λ w. done (w .clean)) ws
+  pub chain-clean : (r u : Record) (flips : ℕ → ℕ → Bool) (ws : List (Row P R)) → Chain ord r u flips ws → T (valid u)
+      → map (λ y. y .answer) (outcomes (receiveModel receiveKind ord) u (map (λ w. sent (w .packing)) ws)) ≡ map (λ w. done (w .clean)) ws
   unfolding accepted
   chain-clean r u flips [] h v = refl
   chain-clean r u flips (w ∷ ws) h v =
       let k = h .0 in
       let e = clean-takes r u w k v in
-      let moved : receive ord u (sent (w .packing)) ≡ receive ord u (frame ord (setOf w) (w .packing .given)) = ap (receive ord u) (k .is-sent) in
-      let here : answerOf (receive ord u (sent (w .packing)) .answer) ≡ done (w .clean) =
-      ap (λ (y : Received). answerOf (y .answer)) (moved ∙ e) ∙ sym (ap done (k .clean-is ∙ ap (λ (y : Received). resultIn (y .answer)) e)) in
-      let rest = chain-clean _ _ _ ws (h .2) (clean-stays r u w k v) in
-      ap₂ (λ (a : Answer FrameResult) (l : List (Answer FrameResult)). a ∷ l) here
-      (ap (λ (y : Received). map (λ z. z .answer) (outcomes (receiveModel ord) (y .next) (map (λ x. sent (x .packing)) ws))) moved ∙ rest)
+      let moved = model-is ord u (sent (w .packing)) ∙ ap (λ (b : List ℕ). outcomeOf (receive ord u b)) (k .is-sent) in
+      let here : receiveModel receiveKind ord u (sent (w .packing)) .answer ≡ done (w .clean) =
+      ap (λ (y : Outcome FrameResult Record). y .answer) (moved ∙ ap outcomeOf e)
+      ∙ sym (ap done (k .clean-is ∙ ap (λ (y : Received). resultIn (y .answer)) e)) in
+      let state = ap (λ (y : Outcome FrameResult Record). y .state) moved in
+      let rest =
+      subst⁻¹ (λ (t : Record). map (λ y. y .answer) (outcomes (receiveModel receiveKind ord) t (map (λ x. sent (x .packing)) ws)) ≡ map (λ x. done (x .clean)) ws)
+      state (chain-clean _ _ _ ws (h .2) (clean-stays r u w k v)) in
+      λ i. here i ∷ rest i

@@ -10,25 +10,27 @@ use Rattle.frame.specs.Damage.{logicalFlips, Correctable, Within}
 use Rattle.records.specs.Records.{valid}
 use Rattle.receiver.specs.declared.FrameResult.{FrameResult}
 use Rattle.records.specs.declared.Record.{Record}
+use Rattle.calls.specs.Model.{PackKind, ReceiveKind}
 use Rattle.calls.specs.Frames.{Row, setOf, FrameClaim, RowClaim, CorrectableFrame, SameLevels, PairClaim}
 use Rattle.bits.specs.Lists.{Every, Successive}
 use Rattle.calls.proofs.OneFrame.{frame-claim, same-g2, same-levels}
 use Rattle.calls.proofs.Rows.{Known, Chain}
 use Rattle.calls.proofs.Chains.{clean-stays}
 
-module _ (ord : List ℕ) (o : Order ord) (width : ℕ) (spread : (fl : ℕ → Bool) → Within width fl → Correctable (logicalFlips ord fl)) where
-  pub row-claim : (r u : Record) (w : Row) → Known ord r u w → RowClaim ord width w
+module _ (ord : List ℕ) (o : Order ord) (width : ℕ) (spread : (fl : ℕ → Bool) → Within width fl → Correctable (logicalFlips ord fl))
+    {P : PackKind} {R : ReceiveKind} where
+  pub row-claim : (r u : Record) (w : Row P R) → Known ord r u w → RowClaim ord width w
   row-claim r u w k =
       subst⁻¹ (λ (y : FrameResult). FrameClaim ord (setOf w) (w .flips) y width) (k .result-is)
       (frame-claim ord o width spread (w .packing .given) (w .flips) r (k .is-valid) (setOf w) (k .may-send))
 
   -- every row
-  pub chain-frames : (r u : Record) (flips : ℕ → ℕ → Bool) (ws : List Row) → Chain ord r u flips ws → Every (RowClaim ord width) ws
+  pub chain-frames : (r u : Record) (flips : ℕ → ℕ → Bool) (ws : List (Row P R)) → Chain ord r u flips ws → Every (RowClaim ord width) ws
   chain-frames r u flips [] h = tt
   chain-frames r u flips (w ∷ ws) h = (row-claim r u w (h .0), chain-frames _ _ _ ws (h .2))
 
   -- the levels of a row whose receivers have the same G2
-  levels : (r u : Record) (w : Row) → Known ord r u w → T (valid u) → r .g2 ≡ u .g2 → CorrectableFrame ord (setOf w) (w .flips)
+  levels : (r u : Record) (w : Row P R) → Known ord r u w → T (valid u) → r .g2 ≡ u .g2 → CorrectableFrame ord (setOf w) (w .flips)
       → SameLevels (w .result) (w .clean)
   levels r u w k v q c =
       subst⁻¹ (λ (y : FrameResult). SameLevels y (w .clean)) (k .result-is)
@@ -36,7 +38,7 @@ module _ (ord : List ℕ) (o : Order ord) (width : ℕ) (spread : (fl : ℕ → 
       (same-levels ord o width spread (w .packing .given) (w .flips) r (k .is-valid) u v (setOf w) (k .may-send) q c))
 
   -- every row after another: a correctable frame leaves both receivers the same G2
-  pub chain-pairs : (r u : Record) (flips : ℕ → ℕ → Bool) (ws : List Row) → Chain ord r u flips ws → T (valid u) → Successive (PairClaim ord) ws
+  pub chain-pairs : (r u : Record) (flips : ℕ → ℕ → Bool) (ws : List (Row P R)) → Chain ord r u flips ws → T (valid u) → Successive (PairClaim ord) ws
   chain-pairs r u flips [] h v = tt
   chain-pairs r u flips (w ∷ []) h v = tt
   chain-pairs r u flips (x ∷ w ∷ ws) h v =

@@ -6,33 +6,15 @@ use mathlib.Core.List.{List, [], _++_}
 use Prim.Native.Nat.{ℕ, zero, suc}
 use lib.ListN.{length, take, drop}
 use lib.Seq.{take-append-seam}
-use contract.Lifetimes.{Lfts}
-use borrow.Fn.World.{ArgsD, ResD}
-use denote.Triple.Clauses.{AtExit}
 use Rattle.order.specs.Order.{defaultOrder}
 use Rattle.order.proofs.Frames.{frame-length}
 use Rattle.frame.specs.Layout.{logicalOf, frame}
 use Rattle.bits.specs.Lists.{writtenUnless}
 use Rattle.frame.specs.Packing.{packRefusal, packedUnless, packAnswer, packWrites}
 use Rattle.sets.specs.declared.ParameterSet.{ParameterSet}
-use Rattle.frame.specs.declared.PackAnswer.{PackAnswer}
-use Rattle.frame.proofs.pack as pack
-use Rattle.frame.proofs.pack.Reads as pack-reads
-use Rattle.calls.specs.Model.{done, packUnless}
+use Rattle.calls.specs.Model.{done, packUnless, packKind}
 use Rattle.calls.specs.Observed.{PackCall, PackStep}
-
--- a call as it is observed
-abbrev pub packCall : ParameterSet → Bool → List ℕ → PackAnswer → List ℕ → PackCall
-packCall set sync lent answer output = record { arguments = record { set = set; lent = lent }; given = sync; answer = answer; output = output }
-
--- a packing call of the code: some call of `frame::pack`, what it was passed, gave and left, of which its contract holds
-pub record CodePacks (c : PackCall) : Type 0 where
-  pub κs : Lfts 1
-  pub passed : ArgsD pack.signature κs
-  pub gave : ResD pack.signature κs
-  pub left : AtExit pack.ended κs
-  pub contract : pack-reads.Post κs passed gave left
-  pub observed : c ≡ packCall (passed .0) (passed .1 .0) (passed .1 .1 .0 .now) gave (left .1 .1 .0 .now)
+use Rattle.calls.specs.CodeCalls.{packCall, CodePacks}
 
 -- there is such a call for all arguments
 pub pack-had : (set : ParameterSet) (sync : Bool) (lent : List ℕ)
@@ -62,7 +44,7 @@ module _ (ord : List ℕ) (set : ParameterSet) (sync : Bool) where
   pack-step lent (suc n) e = record { outcome = sym (ap (λ (n : ℕ). packUnless n ord sync set) e); output = refl }
 
 -- so a packing call of the code does what the model does
-pub code-packs : (c : PackCall) → CodePacks c → PackStep defaultOrder c
+pub code-packs : (c : PackCall packKind) → CodePacks c → PackStep defaultOrder c
 unfolding packAnswer packWrites
 code-packs c k =
     let set = k .passed .0 in

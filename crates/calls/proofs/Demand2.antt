@@ -1,36 +1,84 @@
--- Demand 2, from the bytes that a packing call wrote to the set that a receiving call gives, in any order and any valid record.
+-- Demand 2, in any order and any valid record: from any 54 bits to what they are read as, and from the bytes that a packing call wrote
+-- to the set that a receiving call gives.
 -- Assumes nothing.
-use mathlib.Core.Path.{_≡_, refl, ap, _∙_}
+use mathlib.Core.Path.{_≡_, refl, ap, ap₂, _∙_}
+use mathlib.Core.Bool.{Bool}
 use mathlib.Core.List.{List}
 use Prim.Native.Nat.{ℕ}
-use lib.Dec.{T}
-use Rattle.order.specs.Order.{Order}
+use native.Mathlib.Omega.{arith}
+use lib.Dec.{T, lit<}
+use Rattle.order.specs.Order.{Order, frameOf, logicalBit, frameRefusal}
+use Rattle.order.proofs.Frames.{sent-bit}
+use Rattle.order.proofs.Refusals.{packed-taken, taken-back}
+use Rattle.frame.specs.Layout.{logicalOf, frame}
+use Rattle.reading.specs.Reads.{read}
+use Rattle.reading.proofs.Extent.{read-ext}
 use Rattle.records.specs.Records.{valid}
-use Rattle.receiver.specs.Steps.{accepted}
+use Rattle.receiver.specs.Steps.{accepted, step}
 use Rattle.receiver.specs.Receiving.{receive}
 use Rattle.records.specs.declared.Record.{Record}
 use Rattle.receiver.specs.declared.Received.{Received}
 use Rattle.receiver.proofs.Yields.{resultIn}
+use Rattle.receiver.proofs.Taken.{not-refused, receive-taken}
 use Rattle.receiver.proofs.Arrived.{packed-accepted}
-use Rattle.calls.specs.Observed.{PackCall, ReceiveCall, sent, PackStep, ReceiveStep, packCallRefusal}
-use Rattle.calls.specs.Return.{Returns}
+use Rattle.calls.specs.Model.{packKind, receiveKind}
+use Rattle.calls.specs.Observed.{PackCall, packCallRefusal, sent, PackStep, ReceiveCall, frameIn, receiveCallRefusal, ReceiveStep}
+use Rattle.calls.specs.Return.{ReadsBits, Returns, DefinedReturn, CallsReturn}
 use Rattle.calls.proofs.Steps.{pack-sendable, pack-sent, receive-answer, receive-left}
 
 module _ (ord : List ℕ) (o : Order ord) where
-  pub packed-returns : (c : PackCall) (d : ReceiveCall) → PackStep ord c → ReceiveStep ord d → packCallRefusal c ≡ 0 → T (valid (d .given))
-      → d .frame ≡ sent c → Returns c d
+  -- the frame of any bits is not refused, and is read as they are
+  bits-read : (r : Record) → T (valid r) → (g : ℕ → Bool) → receive ord r (frameOf ord g) ≡ step r (g 53) (read g)
+  bits-read r v g =
+      receive-taken ord r (frameOf ord g) (not-refused r (frameOf ord g) (packed-taken ord g) v)
+      ∙ ap₂ (step r) (sent-bit ord o g 53 (lit< tt)) (read-ext (logicalBit ord (frameOf ord g)) g (λ j h. sent-bit ord o g j (omega arith)))
+
+  pub defined-return : DefinedReturn ord
+  defined-return = record { reads = bits-read; covers = taken-back ord o }
+
+  -- a receiving call with a valid record that gets the frame of bits g does what the receiver does with it
+  module _ (d : ReceiveCall receiveKind) (l : ReceiveStep ord d) (v : T (valid (d .given))) (g : ℕ → Bool) (f : frameIn d ≡ frameOf ord g) where
+    not-refused-here : receiveCallRefusal d ≡ 0
+    not-refused-here = not-refused (d .given) (frameIn d) (ap frameRefusal f ∙ packed-taken ord g) v
+
+    module _ (y : Received) (e : receive ord (d .given) (frameOf ord g) ≡ y) where
+      gets-answer : d .answer ≡ y .answer
+      gets-answer = receive-answer ord d l not-refused-here ∙ ap (λ (x : Received). x .answer) (ap (receive ord (d .given)) f ∙ e)
+
+      gets-record : d .left ≡ y .next
+      gets-record = receive-left ord d l not-refused-here ∙ ap (λ (x : Received). x .next) (ap (receive ord (d .given)) f ∙ e)
+
+  call-reads : (d : ReceiveCall receiveKind) → ReceiveStep ord d → T (valid (d .given)) → (g : ℕ → Bool) → frameIn d ≡ frameOf ord g → ReadsBits g d
+  call-reads d l v g f =
+      let y : Received = step (d .given) (g 53) (read g) in
+      let e = bits-read (d .given) v g in
+      record { answer = gets-answer d l v g f y e; left = gets-record d l v g f y e }
+
+  packed-returns : (c : PackCall packKind) (d : ReceiveCall receiveKind) → PackStep ord c → ReceiveStep ord d → packCallRefusal c ≡ 0 → T (valid (d .given))
+      → frameIn d ≡ sent c → Returns c d
   unfolding accepted
   packed-returns c d k l e v f =
       let set = c .arguments .set in
-      let there : receive ord (d .given) (d .frame) ≡ accepted (d .given) (c .given) set 0 =
-      ap (receive ord (d .given)) (f ∙ pack-sent ord c k e) ∙ packed-accepted ord o (d .given) v (c .given) set (pack-sendable ord c k e) in
+      let y : Received = accepted (d .given) (c .given) set 0 in
+      let same : frameIn d ≡ frame ord set (c .given) = f ∙ pack-sent ord c k e in
+      let there = packed-accepted ord o (d .given) v (c .given) set (pack-sendable ord c k e) in
+      let left = gets-record d l v (logicalOf set (c .given)) same y there in
       record {
-        result = resultIn (accepted (d .given) (c .given) set 0 .answer);
-        answered = receive-answer ord d l ∙ ap (λ (y : Received). y .answer) there;
+        result = resultIn (y .answer);
+        answered = gets-answer d l v (logicalOf set (c .given)) same y there;
         kind = refl;
         set = refl;
         sync = refl;
         repaired = refl;
-        last = ap (λ (y : Record). y .last) (receive-left ord d l ∙ ap (λ (y : Received). y .next) there);
-        g2 = ap (λ (y : Record). y .g2) (receive-left ord d l ∙ ap (λ (y : Received). y .next) there);
+        last = ap (λ (x : Record). x .last) left;
+        g2 = ap (λ (x : Record). x .g2) left;
       }
+
+  -- calls whose contracts imply the model's step
+  pub calls-return : (Packs : PackCall packKind → Type 0) → ((c : PackCall packKind) → Packs c → PackStep ord c) → (Receives : ReceiveCall receiveKind → Type 0)
+      → ((d : ReceiveCall receiveKind) → Receives d → ReceiveStep ord d) → CallsReturn ord Packs Receives
+  calls-return Packs packs Receives receives = record {
+    packs = packs;
+    reads = λ d l. call-reads d (receives d l);
+    returns = λ c d k l. packed-returns c d (packs c k) (receives d l);
+  }

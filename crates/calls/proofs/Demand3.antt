@@ -1,5 +1,5 @@
--- Demand 3, proved: two whole lists of calls, of any kind whose contracts imply the model's step, in any order of the bits in which
--- bursts of a width are correctable; then the default order with bursts of seven neighbouring places.
+-- Demand 3, proved: two whole lists of calls, of any kind and with any contracts that imply the model's step, in any order of the bits
+-- in which bursts of a width are correctable.
 -- Assumes nothing.
 use mathlib.Core.Path.{_≡_, refl}
 use mathlib.Core.Bool.{Bool}
@@ -11,9 +11,9 @@ use Rattle.frame.specs.Damage.{logicalFlips, Correctable, Within}
 use Rattle.records.specs.Records.{fresh}
 use Rattle.records.specs.declared.Record.{Record}
 use Rattle.records.proofs.Validity.{fresh-valid}
-use Rattle.calls.specs.Model.{packModel, receiveModel}
-use Rattle.calls.specs.Observed.{PackCall, ReceiveCall, packLeft, packOutcome, receiveOutcome, lentAfter}
-use Rattle.calls.specs.Observed.{PackStep, ReceiveStep, packCallRefusal, receiveCallRefusal, unrefused}
+use Rattle.calls.specs.Model.{PackKind, packModel, ReceiveKind, receiveModel}
+use Rattle.calls.specs.Observed.{PackCall, packCallRefusal, packLeft, packOutcome, lentAfter, PackStep}
+use Rattle.calls.specs.Observed.{ReceiveCall, receiveCallRefusal, receiveOutcome, ReceiveStep, unrefused}
 use Rattle.calls.specs.Claim.{Session, Claim}
 use Rattle.calls.proofs.Runs.{run-outcomes, run-weaken, run-every, run-unrefused}
 use Rattle.calls.proofs.Steps.{pack-leaves, receive-leaves}
@@ -22,7 +22,8 @@ use Rattle.calls.proofs.Chains.{chain-flips, chain-answers, chain-clean
 use Rattle.calls.proofs.Claims.{chain-frames, chain-pairs}
 
 module _ (ord : List ℕ) (o : Order ord) (width : ℕ) (spread : (fl : ℕ → Bool) → Within width fl → Correctable (logicalFlips ord fl))
-    (ps : List PackCall) (flips : ℕ → ℕ → Bool) (rs : List ReceiveCall) (start : Record) (s : Session (PackStep ord) (ReceiveStep ord) ps flips rs start) where
+    {P : PackKind} {R : ReceiveKind} (ps : List (PackCall P)) (flips : ℕ → ℕ → Bool) (rs : List (ReceiveCall R)) (start : Record)
+    (s : Session (PackStep ord) (ReceiveStep ord) ps flips rs start) where
   -- the calls that are not refused, in rows
   frames : Aligned ord start fresh flips (unrefused packCallRefusal ps) (unrefused receiveCallRefusal rs)
   frames =
@@ -37,13 +38,13 @@ module _ (ord : List ℕ) (o : Order ord) (width : ℕ) (spread : (fl : ℕ → 
       let f = frames in
       record {
         packed =
-            run-outcomes (λ c. c .given) packLeft (PackStep ord) (λ c. c .arguments) packOutcome (packModel ord) (λ c k. k .outcome) (λ c. refl)
+            run-outcomes (λ c. c .given) packLeft (PackStep ord) (λ c. c .arguments) (packOutcome {P = P}) (packModel P ord) (λ c k. k .outcome) (λ c. refl)
             freshSync ps (s .packing);
         lent =
-            run-every (λ c. c .given) packLeft (PackStep ord) (λ c. c .output ≡ lentAfter (packOutcome c .answer) (c .arguments .lent)) (λ c k. k .output)
+            run-every (λ c. c .given) packLeft (PackStep ord) (λ c. c .output ≡ lentAfter (packOutcome c .answer) (P .lent (c .arguments))) (λ c k. k .output)
             freshSync ps (s .packing);
         received =
-            run-outcomes (λ c. c .given) (λ c. c .left) (ReceiveStep ord) (λ c. c .frame) receiveOutcome (receiveModel ord) (λ c k. k) (λ c. refl)
+            run-outcomes (λ c. c .given) (λ c. c .left) (ReceiveStep ord) (λ c. c .arguments) (receiveOutcome {R = R}) (receiveModel R ord) (λ c k. k) (λ c. refl)
             start rs (s .receiving);
         rows = f .rows;
         packings = f .packings;
@@ -57,9 +58,9 @@ module _ (ord : List ℕ) (o : Order ord) (width : ℕ) (spread : (fl : ℕ → 
 
 -- calls of any kind whose contracts imply the model's step
 module _ (ord : List ℕ) (o : Order ord) (width : ℕ) (spread : (fl : ℕ → Bool) → Within width fl → Correctable (logicalFlips ord fl))
-    (Packs : PackCall → Type 0) (packs : (c : PackCall) → Packs c → PackStep ord c)
-    (Receives : ReceiveCall → Type 0) (receives : (c : ReceiveCall) → Receives c → ReceiveStep ord c) where
-  pub claim : (ps : List PackCall) (flips : ℕ → ℕ → Bool) (rs : List ReceiveCall) (start : Record) → Session Packs Receives ps flips rs start
+    {P : PackKind} (Packs : PackCall P → Type 0) (packs : (c : PackCall P) → Packs c → PackStep ord c)
+    {R : ReceiveKind} (Receives : ReceiveCall R → Type 0) (receives : (c : ReceiveCall R) → Receives c → ReceiveStep ord c) where
+  pub claim : (ps : List (PackCall P)) (flips : ℕ → ℕ → Bool) (rs : List (ReceiveCall R)) (start : Record) → Session Packs Receives ps flips rs start
       → Claim ord width ps flips rs start
   claim ps flips rs start s = steps-claim ord o width spread ps flips rs start (record {
     packing = run-weaken (λ c. c .given) packLeft Packs (PackStep ord) packs freshSync ps (s .packing);

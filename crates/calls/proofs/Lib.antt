@@ -8,5 +8,6 @@ pub mod Claims
 pub mod Demand3
 pub mod CodePacks
 pub mod CodeReceives
+pub mod Served
 pub mod Sessions
 pub mod TheCode

@@ -15,17 +15,26 @@ use Rattle.records.specs.declared.Record.{Record}
 use Rattle.receiver.specs.declared.Received.{Received}
 use Rattle.receiver.proofs.Yields.{resultIn}
 use Rattle.receiver.proofs.Taken.{not-refused-only}
-use Rattle.calls.specs.Observed.{PackCall, ReceiveCall, sent, PackStep, ReceiveStep, PackRun, ReceiveRun, packCallRefusal, receiveCallRefusal, channel}
+use Rattle.calls.specs.Model.{PackKind, ReceiveKind}
+use Rattle.calls.specs.Observed.{PackCall, setIn, packCallRefusal, sent, PackStep, PackRun}
+use Rattle.calls.specs.Observed.{ReceiveCall, frameIn, receiveCallRefusal, ReceiveStep, ReceiveRun, channel}
 use Rattle.calls.specs.Frames.{Row, setOf}
 use Rattle.calls.proofs.Steps.{pack-sendable, pack-sent, receive-answer, receive-left}
 
-module _ (ord : List ℕ) where
+-- a call that keeps to the model and is not refused
+abbrev pub PacksFrame : List ℕ → {P : PackKind} → PackCall P → Type 0
+PacksFrame ord c = PackStep ord c × (packCallRefusal c ≡ 0)
+
+abbrev pub TakesFrame : List ℕ → {R : ReceiveKind} → ReceiveCall R → Type 0
+TakesFrame ord c = ReceiveStep ord c × (receiveCallRefusal c ≡ 0)
+
+module _ (ord : List ℕ) {P : PackKind} {R : ReceiveKind} where
   -- the frame that a row's receiver gets
-  abbrev pub got : Row → List ℕ
+  abbrev pub got : Row P R → List ℕ
   got w = arrived ord (setOf w) (w .packing .given) (w .flips)
 
   -- what is known of a row whose receiver has the record r, and the clean receiver u
-  pub record Known (r u : Record) (w : Row) : Type 0 where
+  pub record Known (r u : Record) (w : Row P R) : Type 0 where
     pub may-send : T (sendable (setOf w))
     pub is-sent : sent (w .packing) ≡ frame ord (setOf w) (w .packing .given)
     pub is-valid : T (valid r)
@@ -35,65 +44,58 @@ module _ (ord : List ℕ) where
     pub clean-is : w .clean ≡ resultIn (receive ord u (frame ord (setOf w) (w .packing .given)) .answer)
 
   -- rows in which both receivers go on from row to row, and the channel from frame to frame
-  abbrev pub Chain : Record → Record → (ℕ → ℕ → Bool) → List Row → Type 0
+  abbrev pub Chain : Record → Record → (ℕ → ℕ → Bool) → List (Row P R) → Type 0
   Chain r u flips [] = Unit
   Chain r u flips (w ∷ ws) =
       Known r u w × (w .flips ≡ flips 0)
       × Chain (receive ord r (got w) .next) (receive ord u (frame ord (setOf w) (w .packing .given)) .next) (λ k. flips (suc k)) ws
 
-  -- a call that keeps to the model and is not refused
-  abbrev pub PacksFrame : PackCall → Type 0
-  PacksFrame c = PackStep ord c × (packCallRefusal c ≡ 0)
-
-  abbrev pub TakesFrame : ReceiveCall → Type 0
-  TakesFrame c = ReceiveStep ord c × (receiveCallRefusal c ≡ 0)
-
   -- the row of a packing call and the receiving call that got its frame
-  abbrev rowOf : Record → (ℕ → Bool) → PackCall → ReceiveCall → Row
+  abbrev rowOf : Record → (ℕ → Bool) → PackCall P → ReceiveCall R → Row P R
   rowOf u fl p q = record {
     packing = p;
     flips = fl;
     receiving = q;
     result = resultIn (q .answer);
-    clean = resultIn (receive ord u (frame ord (p .arguments .set) (p .given)) .answer);
+    clean = resultIn (receive ord u (frame ord (setIn p) (p .given)) .answer);
   }
 
-  row-known : (r u : Record) (fl : ℕ → Bool) (p : PackCall) (q : ReceiveCall) → PacksFrame p → TakesFrame q → q .given ≡ r → q .frame ≡ through fl (sent p)
+  row-known : (r u : Record) (fl : ℕ → Bool) (p : PackCall P) (q : ReceiveCall R) → PacksFrame ord p → TakesFrame ord q → q .given ≡ r → frameIn q ≡ through fl (sent p)
       → Known r u (rowOf u fl p q)
   row-known r u fl p q k l g e =
-      let same : q .frame ≡ arrived ord (p .arguments .set) (p .given) fl = e ∙ ap (through fl) (pack-sent ord p (k .0) (k .1)) in
-      let there : receive ord (q .given) (q .frame) ≡ receive ord r (arrived ord (p .arguments .set) (p .given) fl) = ap₂ (receive ord) g same in
-      let answer = receive-answer ord q (l .0) ∙ ap (λ (y : Received). y .answer) there in
+      let same : frameIn q ≡ arrived ord (setIn p) (p .given) fl = e ∙ ap (through fl) (pack-sent ord p (k .0) (k .1)) in
+      let there : receive ord (q .given) (frameIn q) ≡ receive ord r (arrived ord (setIn p) (p .given) fl) = ap₂ (receive ord) g same in
+      let answer = receive-answer ord q (l .0) (l .1) ∙ ap (λ (y : Received). y .answer) there in
       record {
         may-send = pack-sendable ord p (k .0) (k .1);
         is-sent = pack-sent ord p (k .0) (k .1);
-        is-valid = subst (λ (y : Record). T (valid y)) g (not-refused-only (q .given) (q .frame) (l .1) .1);
+        is-valid = subst (λ (y : Record). T (valid y)) g (not-refused-only (q .given) (frameIn q) (R .covers (q .given) (q .arguments) (l .1)) .1);
         answers = answer;
-        leaves = receive-left ord q (l .0) ∙ ap (λ (y : Received). y .next) there;
+        leaves = receive-left ord q (l .0) (l .1) ∙ ap (λ (y : Received). y .next) there;
         result-is = ap resultIn answer;
         clean-is = refl;
       }
 
   -- the rows of two lists of calls
-  pub record Aligned (r u : Record) (flips : ℕ → ℕ → Bool) (ps : List PackCall) (qs : List ReceiveCall) : Type 0 where
-    pub rows : List Row
+  pub record Aligned (r u : Record) (flips : ℕ → ℕ → Bool) (ps : List (PackCall P)) (qs : List (ReceiveCall R)) : Type 0 where
+    pub rows : List (Row P R)
     pub packings : map (λ w. w .packing) rows ≡ ps
     pub receivings : map (λ w. w .receiving) rows ≡ qs
     pub chain : Chain r u flips rows
 
   -- where the receiving calls get exactly what the channel hands on, there are such rows
-  pub aligned : (s : Bool) (r u : Record) (flips : ℕ → ℕ → Bool) (ps : List PackCall) (qs : List ReceiveCall)
-      → PackRun PacksFrame s ps → ReceiveRun TakesFrame r qs → map (λ c. c .frame) qs ≡ channel flips (map sent ps) → Aligned r u flips ps qs
+  pub aligned : (s : Bool) (r u : Record) (flips : ℕ → ℕ → Bool) (ps : List (PackCall P)) (qs : List (ReceiveCall R))
+      → PackRun (PacksFrame ord) s ps → ReceiveRun (TakesFrame ord) r qs → map frameIn qs ≡ channel flips (map sent ps) → Aligned r u flips ps qs
   aligned s r u flips [] [] h j e = record { rows = []; packings = refl; receivings = refl; chain = tt }
   aligned s r u flips [] (q ∷ qs) h j e = absurd (cons≢nil e)
   aligned s r u flips (p ∷ ps) [] h j e = absurd (nil≢cons e)
   aligned s r u flips (p ∷ ps) (q ∷ qs) h j e =
       let here : Known r u (rowOf u (flips 0) p q) = row-known r u (flips 0) p q (h .1) (j .1) (j .0) (head-eq-of-cons-eq e) in
-      let goes-on = subst (λ (y : Record). ReceiveRun TakesFrame y qs) (here .leaves) (j .2) in
-      let rest = aligned _ _ (receive ord u (frame ord (p .arguments .set) (p .given)) .next) (λ k. flips (suc k)) ps qs (h .2) goes-on (tail-eq-of-cons-eq e) in
+      let goes-on = subst (λ (y : Record). ReceiveRun (TakesFrame ord) y qs) (here .leaves) (j .2) in
+      let rest = aligned _ _ (receive ord u (frame ord (setIn p) (p .given)) .next) (λ k. flips (suc k)) ps qs (h .2) goes-on (tail-eq-of-cons-eq e) in
       record {
         rows = rowOf u (flips 0) p q ∷ rest .rows;
-        packings = ap (λ (l : List PackCall). p ∷ l) (rest .packings);
-        receivings = ap (λ (l : List ReceiveCall). q ∷ l) (rest .receivings);
+        packings = ap (λ (l : List (PackCall P)). p ∷ l) (rest .packings);
+        receivings = ap (λ (l : List (ReceiveCall R)). q ∷ l) (rest .receivings);
         chain = (here, refl, rest .chain);
       }

@@ -40,3 +40,18 @@ module _ {C S : Type 0} (given left : C → S) (Keeps : C → Type 0) where
           → Run given left (λ c. Keeps c × (refusal c ≡ 0)) s (keepUnless n c (unrefused refusal cs))
       go zero e rest = (h .0, (h .1, e), rest (left c) (h .2))
       go (suc n) e rest = rest s (subst (λ (t : S). Run given left Keeps t cs) (leaves c n (h .1) e ∙ h .0) (h .2))
+
+-- a refused call is not kept
+pub refused-left-out : {C : Type 0} (n : ℕ) (c : C) (cs : List C) → ¬ (n ≡ 0) → keepUnless n c cs ≡ cs
+refused-left-out zero c cs h = absurd (h refl)
+refused-left-out (suc n) c cs h = refl
+
+-- calls whose refusal depends on something in them alone
+pub unrefused-map : {C X : Type 0} (f : C → X) (refusal : X → ℕ) (cs : List C) → map f (unrefused (λ c. refusal (f c)) cs) ≡ unrefused refusal (map f cs)
+unrefused-map f refusal [] = refl
+unrefused-map f refusal (c ∷ cs) = go (refusal (f c)) (unrefused-map f refusal cs)
+  where
+    go : (n : ℕ) → map f (unrefused (λ c. refusal (f c)) cs) ≡ unrefused refusal (map f cs)
+        → map f (keepUnless n c (unrefused (λ c. refusal (f c)) cs)) ≡ keepUnless n (f c) (unrefused refusal (map f cs))
+    go zero e = λ i. f c ∷ e i
+    go (suc n) e = e

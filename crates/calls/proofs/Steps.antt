@@ -14,15 +14,14 @@ use Rattle.frame.specs.Packing.{packRefusal}
 use Rattle.sets.specs.declared.ParameterSet.{ParameterSet}
 use Rattle.frame.specs.declared.PackAnswer.{PackAnswer}
 use Rattle.frame.specs.declared.PackAnswer.the-variants.{Packed, Refused}
-use Rattle.receiver.specs.Receiving.{receive}
+use Rattle.receiver.specs.Receiving.{receiveUnless, receive}
 use Rattle.receiver.specs.declared.FrameResult.{FrameResult}
 use Rattle.records.specs.declared.Record.{Record}
 use Rattle.receiver.specs.declared.ReceiveAnswer.{ReceiveAnswer}
 use Rattle.receiver.specs.declared.ReceiveAnswer.the-variants as answer
-use Rattle.receiver.proofs.Taken.{receive-refused}
-use Rattle.calls.specs.Model.{Answer, done, refused, Outcome, packUnless, answerOf}
-use Rattle.calls.specs.Observed.{PackCall, ReceiveCall, packLeft, sent, packAnswerOf}
-use Rattle.calls.specs.Observed.{PackStep, ReceiveStep, packCallRefusal, receiveCallRefusal}
+use Rattle.calls.specs.Model.{Answer, done, refused, Outcome, PackKind, packUnless, ReceiveKind, answerOf, outcomeOf}
+use Rattle.calls.specs.Observed.{PackCall, setIn, packCallRefusal, packLeft, sent, packAnswerOf, packOutcome, PackStep}
+use Rattle.calls.specs.Observed.{ReceiveCall, frameIn, receiveCallRefusal, receiveOutcome, ReceiveStep}
 
 -- a set that packing does not refuse may be sent
 sendable-only : (set : ParameterSet) (room : ℕ) → packRefusal set room ≡ 0 → T (sendable set)
@@ -54,35 +53,52 @@ back-is (answer.Result x) = refl
 back-is (answer.Refused n) = refl
 
 module _ (ord : List ℕ) where
-  module _ (c : PackCall) (k : PackStep ord c) where
-    -- a refused packing call leaves the sync bit
+  module _ {P : PackKind} (c : PackCall P) (k : PackStep ord c) where
+    -- a packing call by the number that refuses it
+    pack-by : (n : ℕ) → packCallRefusal c ≡ n → packOutcome c ≡ packUnless n ord (c .given) (setIn c)
+    pack-by n e =
+        let by-kind : packOutcome c ≡ packUnless (packCallRefusal c) ord (c .given) (setIn c) = k .outcome in
+        by-kind ∙ ap (λ (m : ℕ). packUnless m ord (c .given) (setIn c)) e
+
+    -- a refused one leaves the sync bit
     pub pack-leaves : (n : ℕ) → packCallRefusal c ≡ suc n → packLeft c ≡ c .given
-    pack-leaves n e =
-        ap (λ (y : Outcome (List ℕ) Bool). y .state) (k .outcome ∙ ap (λ (m : ℕ). packUnless m ord (c .given) (c .arguments .set)) e)
+    pack-leaves n e = ap (λ (y : Outcome (List ℕ) Bool). y .state) (pack-by (suc n) e)
 
     module _ (e : packCallRefusal c ≡ 0) where
-      -- a packing call that is not refused has a set that may be sent
-      pub pack-sendable : T (sendable (c .arguments .set))
-      pack-sendable = sendable-only (c .arguments .set) (length (c .arguments .lent)) e
+      -- one that is not refused has a set that may be sent
+      pub pack-sendable : T (sendable (setIn c))
+      pack-sendable = sendable-only (setIn c) (length (P .lent (c .arguments))) (P .covers (c .given) (c .arguments) e)
 
       -- and its seven bytes are the frame of the set with the sync bit it was given
-      pub pack-sent : sent c ≡ frame ord (c .arguments .set) (c .given)
+      pub pack-sent : sent c ≡ frame ord (setIn c) (c .given)
       unfolding valueOr
-      pack-sent =
-          sym (bytes-in (c .answer) (sent c))
-          ∙ ap (λ (y : Outcome (List ℕ) Bool). valueOr (sent c) (y .answer))
-          (k .outcome ∙ ap (λ (m : ℕ). packUnless m ord (c .given) (c .arguments .set)) e)
+      pack-sent = sym (bytes-in (c .answer) (sent c)) ∙ ap (λ (y : Outcome (List ℕ) Bool). valueOr (sent c) (y .answer)) (pack-by 0 e)
 
-  module _ (c : ReceiveCall) (k : ReceiveStep ord c) where
-    -- a receiving call gives the receiver's answer
-    pub receive-answer : c .answer ≡ receive ord (c .given) (c .frame) .answer
-    receive-answer =
-        sym (back-is (c .answer)) ∙ ap (λ (y : Outcome FrameResult Record). back (y .answer)) k ∙ back-is (receive ord (c .given) (c .frame) .answer)
-
-    -- and its record
-    pub receive-left : c .left ≡ receive ord (c .given) (c .frame) .next
-    receive-left = ap (λ (y : Outcome FrameResult Record). y .state) k
+  module _ {R : ReceiveKind} (c : ReceiveCall R) (k : ReceiveStep ord c) where
+    -- a receiving call by the number that refuses it
+    receive-by : (n : ℕ) → receiveCallRefusal c ≡ n → receiveOutcome c ≡ outcomeOf (receiveUnless n ord (c .given) (frameIn c))
+    receive-by n e =
+        let by-kind : receiveOutcome c ≡ outcomeOf (receiveUnless (receiveCallRefusal c) ord (c .given) (frameIn c)) = k in
+        by-kind ∙ ap (λ (m : ℕ). outcomeOf (receiveUnless m ord (c .given) (frameIn c))) e
 
     -- a refused one leaves the record
     pub receive-leaves : (n : ℕ) → receiveCallRefusal c ≡ suc n → c .left ≡ c .given
-    receive-leaves n e = receive-left ∙ receive-refused ord (c .given) (c .frame) n e
+    receive-leaves n e = ap (λ (y : Outcome FrameResult Record). y .state) (receive-by (suc n) e)
+
+    module _ (e : receiveCallRefusal c ≡ 0) where
+      -- one that is not refused gives what the receiver gives
+      receives : receiveOutcome c ≡ outcomeOf (receive ord (c .given) (frameIn c))
+      unfolding receive
+      receives =
+          receive-by 0 e ∙ sym (ap (λ (m : ℕ). outcomeOf (receiveUnless m ord (c .given) (frameIn c))) (R .covers (c .given) (c .arguments) e))
+
+      -- its answer
+      pub receive-answer : c .answer ≡ receive ord (c .given) (frameIn c) .answer
+      receive-answer =
+          sym (back-is (c .answer))
+          ∙ ap (λ (y : Outcome FrameResult Record). back (y .answer)) receives
+          ∙ back-is (receive ord (c .given) (frameIn c) .answer)
+
+      -- and its record
+      pub receive-left : c .left ≡ receive ord (c .given) (frameIn c) .next
+      receive-left = ap (λ (y : Outcome FrameResult Record). y .state) receives

@@ -3,7 +3,7 @@
 -- Given: a list of packing calls on one sender from the fresh sync bit, a channel that changes any of each frame's places 0 to 53,
 -- and a list of receiving calls on one receiver from any record, of which those not refused get exactly the frames packed, as the
 -- channel hands them on, each once and in order. Refused calls stand anywhere in both lists. Nothing is asked of the record: one
--- that is not valid has every call refused, so no frame is received by it.
+-- that is not valid has every call refused, so no frame is received by it. What refuses a call is its kind's to say.
 --
 -- Claimed: all that is observed of every call is what the reference model gives, which is fed arguments alone; and of every frame
 -- packed, whatever its flips and whatever went before it, what `RowClaim` and `PairClaim` say.
@@ -18,40 +18,34 @@ use Rattle.frame.specs.Packing.{freshSync}
 use Rattle.records.specs.Records.{fresh}
 use Rattle.records.specs.declared.Record.{Record}
 use Rattle.receiver.specs.declared.ReceiveAnswer.the-variants.{Result}
-use Rattle.calls.specs.Model.{done, outcomes, PackArguments, packModel, receiveModel}
-use Rattle.calls.specs.Observed.{PackCall, ReceiveCall, sent, packOutcome, receiveOutcome, lentAfter}
-use Rattle.calls.specs.Observed.{PackRun, ReceiveRun, unrefused, packCallRefusal, receiveCallRefusal, channel}
+use Rattle.calls.specs.Model.{done, outcomes, PackKind, packModel, ReceiveKind, receiveModel, receiveKind}
+use Rattle.calls.specs.Observed.{PackCall, packCallRefusal, sent, packOutcome, lentAfter, ReceiveCall, frameIn, receiveCallRefusal, receiveOutcome}
+use Rattle.calls.specs.Observed.{PackRun, ReceiveRun, unrefused, channel}
 use Rattle.calls.specs.Frames.{Row, RowClaim, PairClaim}
 
--- what is given: calls that keep their contracts, in two lists, and the channel between
-pub record Session (Packs : PackCall → Type 0) (Receives : ReceiveCall → Type 0) (ps : List PackCall) (flips : ℕ → ℕ → Bool)
-    (rs : List ReceiveCall) (start : Record) : Type 0 where
-  pub packing : PackRun Packs freshSync ps
-  pub receiving : ReceiveRun Receives start rs
-  pub delivered : map (λ c. c .frame) (unrefused receiveCallRefusal rs) ≡ channel flips (map sent (unrefused packCallRefusal ps))
+module _ {P : PackKind} {R : ReceiveKind} where
+  -- what is given: calls that keep their contracts, in two lists, and the channel between
+  pub record Session (Packs : PackCall P → Type 0) (Receives : ReceiveCall R → Type 0) (ps : List (PackCall P)) (flips : ℕ → ℕ → Bool)
+      (rs : List (ReceiveCall R)) (start : Record) : Type 0 where
+    pub packing : PackRun Packs freshSync ps
+    pub receiving : ReceiveRun Receives start rs
+    pub delivered : map frameIn (unrefused receiveCallRefusal rs) ≡ channel flips (map sent (unrefused packCallRefusal ps))
 
--- that it can be had: packing calls with these arguments, and receiving calls that take every frame packed
-pub record Had (Packs : PackCall → Type 0) (Receives : ReceiveCall → Type 0) (xs : List PackArguments) (flips : ℕ → ℕ → Bool) (start : Record) : Type 0 where
-  pub packs : List PackCall
-  pub receives : List ReceiveCall
-  pub arguments : map (λ c. c .arguments) packs ≡ xs
-  pub session : Session Packs Receives packs flips receives start
-
--- what is claimed, in an order of the bits and for bursts of a width
-pub record Claim (ord : List ℕ) (width : ℕ) (ps : List PackCall) (flips : ℕ → ℕ → Bool) (rs : List ReceiveCall) (start : Record) : Type 0 where
-  -- every packing call: the seven bytes or the number, and the sync bit after it; the rest of the lent output
-  pub packed : map packOutcome ps ≡ outcomes (packModel ord) freshSync (map (λ c. c .arguments) ps)
-  pub lent : Every (λ c. c .output ≡ lentAfter (packOutcome c .answer) (c .arguments .lent)) ps
-  -- every receiving call: every part of the result or the number, and the record after it
-  pub received : map receiveOutcome rs ≡ outcomes (receiveModel ord) start (map (λ c. c .frame) rs)
-  -- the frames: a row for each packing call and each receiving call not refused, in order, with the channel's flips,
-  -- the result that was answered, and that of a receiver which starts fresh and gets every frame as packed
-  pub rows : List Row
-  pub packings : map (λ w. w .packing) rows ≡ unrefused packCallRefusal ps
-  pub receivings : map (λ w. w .receiving) rows ≡ unrefused receiveCallRefusal rs
-  pub flipped : map (λ w. w .flips) rows ≡ cut flips 0 (length rows)
-  pub answered : map (λ w. w .receiving .answer) rows ≡ map (λ w. Result (w .result)) rows
-  pub clean : map (λ o. o .answer) (outcomes (receiveModel ord) fresh (map (λ w. sent (w .packing)) rows)) ≡ map (λ w. done (w .clean)) rows
-  -- what is claimed of each frame, and of each with the one before it
-  pub frames : Every (RowClaim ord width) rows
-  pub pairs : Successive (PairClaim ord) rows
+  -- what is claimed, in an order of the bits and for bursts of a width
+  pub record Claim (ord : List ℕ) (width : ℕ) (ps : List (PackCall P)) (flips : ℕ → ℕ → Bool) (rs : List (ReceiveCall R)) (start : Record) : Type 0 where
+    -- every packing call: the seven bytes or the number, and the sync bit after it; the rest of the lent output
+    pub packed : map packOutcome ps ≡ outcomes (packModel P ord) freshSync (map (λ c. c .arguments) ps)
+    pub lent : Every (λ c. c .output ≡ lentAfter (packOutcome c .answer) (P .lent (c .arguments))) ps
+    -- every receiving call: every part of the result or the number, and the record after it
+    pub received : map receiveOutcome rs ≡ outcomes (receiveModel R ord) start (map (λ c. c .arguments) rs)
+    -- the frames: a row for each packing call and each receiving call not refused, in order, with the channel's flips,
+    -- the result that was answered, and that of a receiver which starts fresh and gets every frame as packed
+    pub rows : List (Row P R)
+    pub packings : map (λ w. w .packing) rows ≡ unrefused packCallRefusal ps
+    pub receivings : map (λ w. w .receiving) rows ≡ unrefused receiveCallRefusal rs
+    pub flipped : map (λ w. w .flips) rows ≡ cut flips 0 (length rows)
+    pub answered : map (λ w. w .receiving .answer) rows ≡ map (λ w. Result (w .result)) rows
+    pub clean : map (λ o. o .answer) (outcomes (receiveModel receiveKind ord) fresh (map (λ w. sent (w .packing)) rows)) ≡ map (λ w. done (w .clean)) rows
+    -- what is claimed of each frame, and of each with the one before it
+    pub frames : Every (RowClaim ord width) rows
+    pub pairs : Successive (PairClaim ord) rows

@@ -12,7 +12,8 @@ use Rattle.sets.specs.declared.ParameterSet.{ParameterSet}
 use Rattle.receiver.specs.Steps.{kindOf}
 use Rattle.receiver.specs.declared.FrameResult.{FrameResult}
 use Rattle.receiver.specs.declared.Kind.the-variants.{Unvoiced, Voiced, Repeat}
-use Rattle.calls.specs.Observed.{PackCall, ReceiveCall}
+use Rattle.calls.specs.Model.{PackKind, ReceiveKind}
+use Rattle.calls.specs.Observed.{PackCall, setIn, ReceiveCall}
 
 -- a frame by the set that was packed and the places that the channel changed; it is sent unvoiced or voiced as its set is
 module _ (ord : List ℕ) (set : ParameterSet) (flips : ℕ → Bool) where
@@ -51,19 +52,20 @@ pub record SameLevels (x y : FrameResult) : Type 0 where
 
 -- a frame on its way: the call that packed it, the places that the channel changed, the call that received it with its result,
 -- and the result of the clean receiver (document 01's unharmed one) there
-pub record Row : Type 0 where
-  pub packing : PackCall
+pub record Row (P : PackKind) (R : ReceiveKind) : Type 0 where
+  pub packing : PackCall P
   pub flips : ℕ → Bool
-  pub receiving : ReceiveCall
+  pub receiving : ReceiveCall R
   pub result : FrameResult
   pub clean : FrameResult
 
-abbrev pub setOf : Row → ParameterSet
-setOf w = w .packing .arguments .set
+module _ {P : PackKind} {R : ReceiveKind} where
+  abbrev pub setOf : Row P R → ParameterSet
+  setOf w = setIn (w .packing)
 
-abbrev pub RowClaim : List ℕ → ℕ → Row → Type 0
-RowClaim ord width w = FrameClaim ord (setOf w) (w .flips) (w .result) width
+  abbrev pub RowClaim : List ℕ → ℕ → Row P R → Type 0
+  RowClaim ord width w = FrameClaim ord (setOf w) (w .flips) (w .result) width
 
--- what is claimed of frame w packed just after frame v: where both are correctable, its gain levels are those of the clean receiver
-abbrev pub PairClaim : List ℕ → Row → Row → Type 0
-PairClaim ord v w = CorrectableFrame ord (setOf v) (v .flips) → CorrectableFrame ord (setOf w) (w .flips) → SameLevels (w .result) (w .clean)
+  -- what is claimed of frame w packed just after frame v: where both are correctable, its gain levels are those of the clean receiver
+  abbrev pub PairClaim : List ℕ → Row P R → Row P R → Type 0
+  PairClaim ord v w = CorrectableFrame ord (setOf v) (v .flips) → CorrectableFrame ord (setOf w) (w .flips) → SameLevels (w .result) (w .clean)

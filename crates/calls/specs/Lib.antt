@@ -3,3 +3,6 @@ pub mod Observed
 pub mod Return
 pub mod Frames
 pub mod Claim
+pub mod Script
+pub mod CodeCalls
+pub mod Demands

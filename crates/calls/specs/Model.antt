@@ -1,16 +1,19 @@
 -- Document 01, "Lists of calls": the reference model, document 01's reckoning. It is fed the calls' arguments alone and keeps a state of its own.
+-- It takes the kind of call: another kind may be passed more, and have refusals of its own.
 use Prim.Native.Nat.{ℕ, zero, suc}
+use mathlib.Core.Path.{_≡_}
 use mathlib.Core.Bool.{Bool, not}
 use mathlib.Core.List.{List, [], _∷_}
 use lib.ListN.{length}
 use Rattle.frame.specs.Layout.{frame}
 use Rattle.frame.specs.Packing.{packRefusal}
 use Rattle.sets.specs.declared.ParameterSet.{ParameterSet}
-use Rattle.receiver.specs.Receiving.{receive}
+use Rattle.receiver.specs.Receiving.{receiveRefusal, receiveUnless}
 use Rattle.receiver.specs.declared.FrameResult.{FrameResult}
 use Rattle.records.specs.declared.Record.{Record}
 use Rattle.receiver.specs.declared.ReceiveAnswer.{ReceiveAnswer}
 use Rattle.receiver.specs.declared.ReceiveAnswer.the-variants.{Result, Refused}
+use Rattle.receiver.specs.declared.Received.{Received}
 
 -- what a call answers: a value, or the number of its refusal
 pub data Answer (A : Type 0) : Type 0 where
@@ -27,23 +30,56 @@ abbrev pub outcomes : {X A S : Type 0} → (S → X → Outcome A S) → S → L
 outcomes model s [] = []
 outcomes model s (x ∷ xs) = model s x ∷ outcomes model (model s x .state) xs
 
--- the arguments of a packing call without its state: the set and the lent output
-pub record PackArguments : Type 0 where
-  pub set : ParameterSet
-  pub lent : List ℕ
+-- a kind of packing call: what it is passed besides the sync bit, the set and the lent output therein, and the number that refuses it, 0 is none
+pub record PackKind : Type 1 where
+  pub Arguments : Type 0
+  pub set : Arguments → ParameterSet
+  pub lent : Arguments → List ℕ
+  pub refusal : Bool → Arguments → ℕ
+  -- what the table refuses of a set and an output, it refuses too
+  pub covers : (sync : Bool) (x : Arguments) → refusal sync x ≡ 0 → packRefusal (set x) (length (lent x)) ≡ 0
 
--- packing: a call that the table refuses gives its number and the sync bit stays; any other gives the frame of the set with this sync bit, which changes
+-- packing: a call that is refused gives its number and the sync bit stays; any other gives the frame of the set with this sync bit, which changes
 abbrev pub packUnless : ℕ → List ℕ → Bool → ParameterSet → Outcome (List ℕ) Bool
 packUnless zero ord sync set = record { answer = done (frame ord set sync); state = not sync }
 packUnless (suc n) ord sync set = record { answer = refused (suc n); state = sync }
 
-abbrev pub packModel : List ℕ → Bool → PackArguments → Outcome (List ℕ) Bool
-packModel ord sync x = packUnless (packRefusal (x .set) (length (x .lent))) ord sync (x .set)
+abbrev pub packModel : (P : PackKind) → List ℕ → Bool → P .Arguments → Outcome (List ℕ) Bool
+packModel P ord sync x = packUnless (P .refusal sync x) ord sync (P .set x)
 
--- receiving: the refusal's number or the result, and the next record, that the definition of the receiver gives for the frame and this record
+-- a kind of receiving call: what it is passed besides the record, the frame therein, and the number that refuses it, 0 is none
+pub record ReceiveKind : Type 1 where
+  pub Arguments : Type 0
+  pub frame : Arguments → List ℕ
+  pub refusal : Record → Arguments → ℕ
+  -- what the table refuses of a frame and a record, it refuses too
+  pub covers : (r : Record) (x : Arguments) → refusal r x ≡ 0 → receiveRefusal r (frame x) ≡ 0
+
+-- receiving: a call that is refused gives its number and the record stays; any other gives the result and the next record that the
+-- definition of the receiver has for the bits received and this record
 abbrev pub answerOf : ReceiveAnswer → Answer FrameResult
 answerOf (Result x) = done x
 answerOf (Refused n) = refused n
 
-abbrev pub receiveModel : List ℕ → Record → List ℕ → Outcome FrameResult Record
-receiveModel ord r bytes = record { answer = answerOf (receive ord r bytes .answer); state = receive ord r bytes .next }
+abbrev pub outcomeOf : Received → Outcome FrameResult Record
+outcomeOf y = record { answer = answerOf (y .answer); state = y .next }
+
+abbrev pub receiveModel : (R : ReceiveKind) → List ℕ → Record → R .Arguments → Outcome FrameResult Record
+receiveModel R ord r x = outcomeOf (receiveUnless (R .refusal r x) ord r (R .frame x))
+
+-- document 01's own calls, which only the table refuses: packing is passed a set and a lent output, receiving a frame
+pub record PackArguments : Type 0 where
+  pub set : ParameterSet
+  pub lent : List ℕ
+
+abbrev pub packKind : PackKind
+packKind = record {
+  Arguments = PackArguments;
+  set = λ x. x .set;
+  lent = λ x. x .lent;
+  refusal = λ sync x. packRefusal (x .set) (length (x .lent));
+  covers = λ sync x e. e;
+}
+
+abbrev pub receiveKind : ReceiveKind
+receiveKind = record { Arguments = List ℕ; frame = λ bytes. bytes; refusal = receiveRefusal; covers = λ r bytes e. e }

@@ -18,7 +18,7 @@ use Rattle.records.specs.declared.Record.{Record}
 use Rattle.receiver.specs.declared.Received.{Received}
 use Rattle.receiver.proofs.Taken.{not-refused, receive-taken}
 use Rattle.records.proofs.Validity.{fresh-valid}
-use Rattle.calls.specs.Model.{outcomes, answerOf, receiveModel}
+use Rattle.calls.specs.Model.{outcomes, answerOf, receiveModel, receiveKind}
 use Rattle.bits.specs.Lists.{Every}
 use Rattle.examples.specs.Examples.{Erases, muteIn, Mutes}
 
@@ -33,13 +33,13 @@ erased-repeats r bytes v e =
     receive-taken defaultOrder r bytes (not-refused r bytes (e .taken) v) ∙ ap (step r (logicalBit defaultOrder bytes 53)) (e .erased)
 
 erased-mutes : (frames : List (List ℕ)) (r : Record) → T (valid r) → Every Erases frames
-    → map (λ o. muteIn (o .answer)) (outcomes (receiveModel defaultOrder) r frames) ≡ mutesFrom (r .kinds) (length frames)
-unfolding repeated
+    → map (λ o. muteIn (o .answer)) (outcomes (receiveModel receiveKind defaultOrder) r frames) ≡ mutesFrom (r .kinds) (length frames)
+unfolding repeated receive
 erased-mutes [] r v h = refl
 erased-mutes (b ∷ bs) r v h =
     let e = erased-repeats r b v (h .0) in
     let here = ap (λ (y : Received). muteIn (answerOf (y .answer))) e in
-    let rest = ap (λ (y : Received). map (λ o. muteIn (o .answer)) (outcomes (receiveModel defaultOrder) (y .next) bs)) e in
+    let rest = ap (λ (y : Received). map (λ o. muteIn (o .answer)) (outcomes (receiveModel receiveKind defaultOrder) (y .next) bs)) e in
     ap₂ (λ (m : Bool) (ms : List Bool). m ∷ ms) here
     (rest ∙ erased-mutes bs (record { last = r .last; g2 = r .g2; kinds = pushed (r .kinds) repeatedKind }) v (h .1))
 

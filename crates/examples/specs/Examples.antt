@@ -30,7 +30,7 @@ use Rattle.receiver.specs.declared.Kind.the-variants as kind
 use Rattle.receiver.specs.declared.ReceiveAnswer.the-variants.{Result}
 use Rattle.spectra.specs.Values.{lsfAnswer, lsfWrites}
 use Rattle.spectra.specs.declared.ValuesAnswer.the-variants.{Written}
-use Rattle.calls.specs.Model.{Answer, done, refused, outcomes, receiveModel}
+use Rattle.calls.specs.Model.{Answer, done, refused, outcomes, receiveModel, receiveKind}
 use Rattle.bits.specs.Lists.{Every}
 
 -- 1: classes of pitch codes
@@ -129,7 +129,7 @@ pub record Mutes : Type 0 where
   -- one such frame: that of example 7 with places 0 and 7 changed
   pub erased : Erases (changed (0 ∷ 7 ∷ []))
   pub eight : (frames : List (List ℕ)) → length frames ≡ 8 → Every Erases frames
-      → map (λ o. muteIn (o .answer)) (outcomes (receiveModel defaultOrder) fresh frames)
+      → map (λ o. muteIn (o .answer)) (outcomes (receiveModel receiveKind defaultOrder) fresh frames)
       ≡ false ∷ false ∷ false ∷ false ∷ false ∷ false ∷ false ∷ true ∷ []
 
 -- all together
