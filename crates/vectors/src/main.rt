@@ -1,6 +1,7 @@
 // Runs the vectors of an independent implementation, from standard input, through the libraries. A vector
 // is 64 bytes: its kind, the arguments of a call, and what the call must answer.
 mod coder;
+mod in_place;
 mod levels;
 mod taking;
 mod vector;

@@ -1,9 +1,11 @@
 // Vectors of receiving.
+use crate::in_place::in_place;
 use crate::vector::set_of;
 use crate::vector::wide;
 use receiver::FrameResult;
 use receiver::Kind;
 use receiver::ReceiveAnswer;
+use receiver::Received;
 use records::FrameKind;
 use records::Record;
 use sets::ParameterSet;
@@ -119,15 +121,22 @@ fn answer_agrees(r: [u8; 64], answer: ReceiveAnswer) -> bool {
     }
 }
 
-// Kind 9: receiving.
+// Whether the answer and the record after it are those of the vector.
+fn received_agrees(r: [u8; 64], received: Received) -> bool {
+    let answer = received.answer;
+    let next = received.next;
+    answer_agrees(r, answer) & next_agrees(r, next)
+}
+
+// Kind 9: receiving, by value and in place.
 pub(crate) fn receive_agrees(r: [u8; 64]) -> bool {
     let size = r[15] as usize;
     if 9 < size {
         return false;
     }
     let end = 16 + size;
-    let received = receiver::receive(record_of(r), &r[16..end]);
-    let answer = received.answer;
-    let next = received.next;
-    answer_agrees(r, answer) & next_agrees(r, next)
+    let rec = record_of(r);
+    let by_value = receiver::receive(rec, &r[16..end]);
+    let changed = in_place(rec, &r[16..end]);
+    received_agrees(r, by_value) & received_agrees(r, changed)
 }
