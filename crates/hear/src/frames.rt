@@ -13,8 +13,8 @@ ghost use Rattle.report.specs.Lines.{frameLine};
 ghost use Rattle.report.specs.Placing.{Appended};
 ghost use Rattle.hear.specs.Call.{repeatOf, recordAfter, answerAt};
 
-// How far a call is received: the receiver's record, how many frames were repeats, what is sent of the text,
-// and where the rest of it ends in the buffer.
+// How far a call is received: the receiver's record, how many frames were repeats, how many bytes of the text are
+// sent, and where the others end in the buffer.
 pub(crate) struct Progress {
     pub(crate) rec: Record,
     pub(crate) repeats: u64,
@@ -22,7 +22,7 @@ pub(crate) struct Progress {
     pub(crate) end: usize,
 }
 
-// Before the first frame, nothing is sent.
+// Before the first frame: a fresh receiver, and nothing is sent.
 pub(crate) fn begin(end: usize) -> Progress
     ensures { λ r. ⌜ (r .rec ≡ fresh) × (r .repeats ≡ 0) × (r .sent .count ≡ 0) × (r .end ≡ end) ⌝ }
 {

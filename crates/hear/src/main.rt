@@ -2,7 +2,7 @@
 //
 //   frames    what the receiver makes of each frame, and its line
 //   printing  the text, sent in large parts
-//   output    the count of bytes sent, moved by the one function that writes
+//   output    the one function that writes, and the count of what is sent
 mod frames;
 mod output;
 mod printing;

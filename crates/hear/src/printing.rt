@@ -45,7 +45,7 @@ fn print_frames(bytes: &[u8], out: &mut [u8], end: usize) -> Progress
     progress
 }
 
-// The whole text; how many bytes of it are sent, which is all.
+// The whole text; in the end as many bytes are sent as it has.
 fn print_text(bytes: &[u8], out: &mut [u8]) -> Sent
     requires { ⌜ (length (now bytes) ≤ 65534) × (length (now out) ≡ 65536) ⌝ }
     ensures { λ r. ⌜ r .count ≡ length (text (now (bytes .entry))) ⌝ }
@@ -62,12 +62,11 @@ fn print_text(bytes: &[u8], out: &mut [u8]) -> Sent
     send(bytes, out, sent, end)
 }
 
-// The text of the first `size` bytes of the input.
-pub(crate) fn print_call(input: &[u8; 65534], size: usize) -> Sent
-    requires { ⌜ Counts size (now input) ⌝ }
+// The text of the bytes that were read, the first `size` of an input of 9,362 frames.
+pub(crate) fn print_call(input: &[u8], size: usize) -> Sent
+    requires { ⌜ (length (now input) ≡ 65534) × Counts size (now input) ⌝ }
     ensures { λ r. ⌜ r .count ≡ length (text (take size (now (input .entry)))) ⌝ }
 {
-    let bytes: &[u8] = input;
     let mut out = io::large_buffer();
-    print_text(&bytes[..size], &mut out)
+    print_text(&input[..size], &mut out)
 }
