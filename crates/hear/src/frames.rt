@@ -1,4 +1,6 @@
 // What the receiver makes of each frame, and its line.
+use crate::output::Sent;
+use crate::output::nothing;
 use receiver::Kind;
 use receiver::ReceiveAnswer;
 use records::Record;
@@ -6,6 +8,7 @@ use report::end_of;
 ghost use mathlib.Core.Path.{_≡_};
 ghost use Prim.Native.Nat.{suc, _+_, _*_, _≤_};
 ghost use lib.ListN.{length};
+ghost use Rattle.records.specs.Records.{fresh};
 ghost use Rattle.report.specs.Lines.{frameLine};
 ghost use Rattle.report.specs.Placing.{Appended};
 ghost use Rattle.hear.specs.Call.{repeatOf, recordAfter, answerAt};
@@ -15,8 +18,20 @@ ghost use Rattle.hear.specs.Call.{repeatOf, recordAfter, answerAt};
 pub(crate) struct Progress {
     pub(crate) rec: Record,
     pub(crate) repeats: u64,
-    pub(crate) sent: usize,
+    pub(crate) sent: Sent,
     pub(crate) end: usize,
+}
+
+// Before the first frame: a fresh receiver, and nothing is sent.
+pub(crate) fn begin(end: usize) -> Progress
+    ensures { λ r. ⌜ (r .rec ≡ fresh) × (r .repeats ≡ 0) × (r .sent .count ≡ 0) × (r .end ≡ end) ⌝ }
+{
+    Progress {
+        rec: records::fresh(),
+        repeats: 0,
+        sent: nothing(),
+        end,
+    }
 }
 
 // 1 for a repeat, 0 for any other answer.
@@ -44,17 +59,19 @@ pub(crate) fn take_frame(before: Progress, bytes: &[u8], k: usize, out: &mut [u8
     ensures line { λ r. ⌜ Appended (now (out .entry)) (before .end) (frameLine k (answerAt (now (bytes .entry)) k)) (now (out .exit)) (r .end)
         × (r .end ≤ before .end + 144)
         × (r .repeats ≤ suc k)
-        × (r .sent ≡ before .sent)
+        × (r .sent .count ≡ before .sent .count)
         × (length (frameLine k (answerAt (now (bytes .entry)) k)) ≤ 144) ⌝ }
 {
     let rec = before.rec;
+    let sent = before.sent;
     let received = receiver::receive(rec, &bytes[7 * k..7 * k + 7]);
     let answer = received.answer;
     let next = received.next;
+    let repeats = before.repeats + repeat_of(answer);
     Progress {
         rec: next,
-        repeats: before.repeats + repeat_of(answer),
-        sent: before.sent,
+        repeats,
+        sent,
         end: end_of(
             report::frame_line(k as u64, answer, out, before.end),
             before.end,

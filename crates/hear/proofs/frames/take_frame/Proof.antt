@@ -34,8 +34,8 @@ receive-requires c κs = search needs
 repeat-of-requires : tie.Need-repeat-of-requires
 repeat-of-requires c κs = search needs
 
-add-t17 : tie.Need-add-t17
-add-t17 c = search needs
+add-repeats : tie.Need-add-repeats
+add-repeats c = search needs
 
 frame-line-requires : tie.Need-frame-line-requires
 frame-line-requires c κs = search needs
@@ -51,7 +51,7 @@ returns c =
     let l = c .before .before .before in
     let t = l .before .before .before in
     let r = t .before .before in
-    let s = r .before .before .before .before .before in
+    let s = r .before .before .before .before .before .before in
     let a = s .args in
     let bytes = a .bytes .now in
     let b = a .before in
@@ -76,7 +76,7 @@ take-frame-spec =
     part-receive-end
     receive-requires
     repeat-of-requires
-    add-t17
+    add-repeats
     frame-line-requires
     end-of-requires
     same-length

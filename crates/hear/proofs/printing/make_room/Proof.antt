@@ -15,19 +15,19 @@ returns c = search needs
 
 send-requires : tie.Need-send-requires
 send-requires c κs =
-    let s = c .before .before .before .before .before in
-    let a = s .args in
-    let b = a .before in
-    let g = text-goes-on (a .bytes .now) (a .k) (s .pre .0 .0) in
-    let n = pending-next (textBefore (a .bytes .now) (a .k)) (b .sent) (b .end) (a .out .now) (s .pre .0 .1) (g .0) in
-    (omega (arith, s .pre .1), n ∙ ap (λ (l : List ℕ). take (b .end) (drop (b .sent) l)) (sym (g .1)), s .pre .1 .2)
-
-returns-2 : tie.Need-returns-2
-returns-2 c =
     let s = c .before .before .before .before .before .before in
     let a = s .args in
     let b = a .before in
-    let w = pending-none (textBefore (a .bytes .now) (a .k)) (b .sent) (b .end) (a .out .now) (s .pre .0 .1) in
+    let g = text-goes-on (a .bytes .now) (a .k) (s .pre .0 .0) in
+    let n = pending-next (textBefore (a .bytes .now) (a .k)) (b .sent .count) (b .end) (a .out .now) (s .pre .0 .1) (g .0) in
+    (omega (arith, s .pre .1), n ∙ ap (λ (l : List ℕ). take (b .end) (drop (b .sent .count) l)) (sym (g .1)), s .pre .1 .2)
+
+returns-2 : tie.Need-returns-2
+returns-2 c =
+    let s = c .before .before .before .before .before .before .before in
+    let a = s .args in
+    let b = a .before in
+    let w = pending-none (textBefore (a .bytes .now) (a .k)) (b .sent .count) (b .end) (a .out .now) (s .pre .0 .1) in
     ((refl, refl), (rw (c .send .ensures) w, omega arith))
 
 pub make-room-spec : {M : Type 1} → statement M

@@ -14,19 +14,22 @@ abbrev Inv-loop : tie.InvT-loop
 Inv-loop bytes out₀ end progress₀ k₀ k-end out progress k =
     ((k-end ≡ length bytes / 7) × (k ≤ k-end) × (length out ≡ length out₀))
     × ((progress .rec ≡ recordAfter bytes k) × (progress .repeats ≡ repeatsBefore bytes k) × (progress .repeats ≤ k))
-    × (Pending (textBefore bytes k) (progress .sent) (progress .end) out × (progress .end ≤ 65536) × (progress .sent + progress .end ≤ 22 + 144 * k))
+    × (Pending (textBefore bytes k) (progress .sent .count) (progress .end) out × (progress .end ≤ 65536) × (progress .sent .count + progress .end ≤ 22 + 144 * k))
 
 abbrev μ-loop : tie.MeasureT-loop
 μ-loop bytes out₀ end progress₀ k₀ k-end out progress k = k-end - k
 
-fresh-requires : tie.Need-fresh-requires Inv-loop μ-loop
-fresh-requires c κs = search needs
+begin-requires : tie.Need-begin-requires Inv-loop μ-loop
+begin-requires c κs = search needs
 
 loop-holds : tie.Need-loop-holds Inv-loop μ-loop
 unfolding recordAfter textBefore repeatsBefore
 loop-holds c =
     let s = c .before .before .before in
-    ((refl, omega arith, refl), (c .fresh .ensures, refl, omega arith), (s .pre .2, omega (arith, s .pre .2 .0), omega (arith, s .pre .2 .0)))
+    let b = c .begin .ensures in
+    let w : Pending (textBefore (s .args .bytes .now) 0) (c .begin .result .sent .count) (c .begin .result .end) (s .args .out .now) =
+    rw (b .2) (rw (b .3) (s .pre .2)) in
+    ((refl, omega arith, refl), (b .0, b .1, omega (arith, b .1)), (w, omega (arith, w .0), omega (arith, w .0)))
 
 make-room-requires : tie.Need-make-room-requires Inv-loop μ-loop
 make-room-requires c κs = search needs
@@ -34,8 +37,11 @@ make-room-requires c κs = search needs
 take-frame-requires : tie.Need-take-frame-requires Inv-loop μ-loop
 take-frame-requires c κs =
     let m = c .before in
-    let i = m .before .before .before .loop .inv in
-    (search needs, m .make-room .ensures .0 .0 ∙ i .1 .0)
+    let l = m .before .before .before in
+    let i = l .loop .inv in
+    let s = l .before .before .before .before in
+    let r = m .make-room .ensures in
+    ((search needs, omega (arith, r .1 .1, i .0 .2, s .pre .1), omega (arith, r .0 .1, i .1 .2)), m .make-room .ensures .0 .0 ∙ i .1 .0)
 
 add-k : tie.Need-add-k Inv-loop μ-loop
 add-k c = search needs
@@ -79,7 +85,7 @@ print-frames-spec =
     (tie.spec
     Inv-loop
     μ-loop
-    fresh-requires
+    begin-requires
     loop-holds
     make-room-requires
     take-frame-requires

@@ -1,9 +1,9 @@
--- `hear::printing::send` meets its contract: the part that is written has `end` bytes. Assumes nothing.
+-- `hear::output::send` meets its contract: the part that is written has `end` bytes. Assumes nothing.
 use mathlib.Core.Path.{sym}
 use lib.Seq.{length-take-le}
 use borrow.Author.Needs.{needs}
-use Rattle.hear.proofs.printing.send.Statement.{statement}
-use Rattle.hear.proofs.printing.send.Tie as tie
+use Rattle.hear.proofs.output.send.Statement.{statement}
+use Rattle.hear.proofs.output.send.Tie as tie
 
 slice-aggregate-write-all : tie.Need-slice-aggregate-write-all
 slice-aggregate-write-all c =
@@ -13,11 +13,11 @@ slice-aggregate-write-all c =
 write-all-requires : tie.Need-write-all-requires
 write-all-requires c κs = search needs
 
-add-result : tie.Need-add-result
-add-result c = search needs
+add-count : tie.Need-add-count
+add-count c = search needs
 
 returns : tie.Need-returns
 returns c = search needs
 
 pub send-spec : {M : Type 1} → statement M
-send-spec = tie.close (tie.spec slice-aggregate-write-all write-all-requires add-result returns)
+send-spec = tie.close (tie.spec slice-aggregate-write-all write-all-requires add-count returns)

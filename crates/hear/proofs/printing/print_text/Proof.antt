@@ -1,4 +1,4 @@
--- `hear::printing::print_call` meets its contract: with the last line the whole text is sent or waits, and what waits is sent. Assumes nothing.
+-- `hear::printing::print_text` meets its contract: with the last line the whole text is sent or waits, and what waits is sent. Assumes nothing.
 use mathlib.Core.Path.{_≡_, ap, _∙_}
 use mathlib.Core.List.{List, [], append-nil}
 use Prim.Native.Nat.{ℕ, _+_, _≤_}
@@ -9,8 +9,8 @@ use Rattle.hear.specs.Call.{framesIn, leftIn, textBefore, repeatsBefore,
 use Rattle.report.proofs.Added.{line-added}
 use Rattle.hear.proofs.Pending.{pending-more, pending-next}
 use borrow.Author.Needs.{needs}
-use Rattle.hear.proofs.printing.print_call.Statement.{statement}
-use Rattle.hear.proofs.printing.print_call.Tie as tie
+use Rattle.hear.proofs.printing.print_text.Statement.{statement}
+use Rattle.hear.proofs.printing.print_text.Tie as tie
 
 -- where room was made for the last line, and where the call began
 abbrev made : tie.After-end-of2 → tie.After-make-room
@@ -21,7 +21,7 @@ begun c = made c .before .before .before .before .before .before .before .before
 
 -- the whole text is sent or waits
 whole : (c : tie.After-end-of2)
-    → Pending (text (begun c .args .bytes .now)) (made c .make-room .result .sent) (c .end-of2 .result) (c .before .before .before .last-line .last .1 .1 .1 .0)
+    → Pending (text (begun c .args .bytes .now)) (made c .make-room .result .sent .count) (c .end-of2 .result) (c .before .before .before .last-line .last .1 .1 .1 .0)
     × (c .end-of2 .result ≤ made c .make-room .result .end + 144)
 unfolding text
 whole c =
@@ -36,6 +36,13 @@ whole c =
     let last = lastLine n (m .make-room .result .repeats) (leftIn bytes) in
     let q = line-added last _ _ (m .make-room .result .end) 144 _ _ (l .last-line .ensures) (c .end-of2 .ensures) (omega (arith, r .1 .1)) in
     (pending-more (textBefore bytes n) _ _ _ (r .1 .0) _ _ _ (rw count at (q .0)), q .1)
+
+-- the buffer keeps its length
+size-kept : (c : tie.After-end-of2) → length (c .before .before .before .last-line .last .1 .1 .1 .0) ≡ length (begun c .args .out .now)
+size-kept c =
+    let p = made c .before .before .before .before in
+    let f = p .before .before .before .before .before in
+    c .before .before .before .last-line .kept .1 .1 .1 .0 ∙ p .print-frames .kept .1 .0 ∙ f .first-line .kept .0
 
 first-line-requires : tie.Need-first-line-requires
 first-line-requires c κs = search needs
@@ -65,29 +72,27 @@ end-of-requires-2 c κs = search needs
 
 send-requires : tie.Need-send-requires
 send-requires c κs =
-    let e = c .before in
+    let e = c .before .before in
     let m = e .before .before .before .before .before in
     let p = m .before .before .before .before in
     let r = m .make-room .ensures in
     let f = p .print-frames .ensures in
     let w = whole e in
-    let g = p .before .before .before .before .before in
-    let s = g .before .before .before .before in
-    let size : length (e .before .before .before .last-line .last .1 .1 .1 .0) ≡ 65536 =
-    e .before .before .before .last-line .kept .1 .1 .1 .0 ∙ p .print-frames .kept .1 .0 ∙ g .first-line .kept .0 ∙ s .pre .1 in
+    let s = begun e in
+    let size = size-kept e ∙ s .pre .1 in
     let t = text (s .args .bytes .now) in
-    let n = pending-next t (m .make-room .result .sent) (e .end-of2 .result) _ (w .0) [] in
-    let all = ap (λ (l : List ℕ). take (e .end-of2 .result) (drop (m .make-room .result .sent) l)) (append-nil t) in
+    let n = pending-next t (m .make-room .result .sent .count) (e .end-of2 .result) _ (w .0) [] in
+    let all = ap (λ (l : List ℕ). take (e .end-of2 .result) (drop (m .make-room .result .sent .count) l)) (append-nil t) in
     (omega (arith, w .1, r .1 .1, size), n ∙ all, omega (arith, w .1, r .1 .0 .0, f .1 .0 .0, f .0 .1))
 
 same-length : tie.Need-same-length
-same-length c = search needs
+same-length c = size-kept (c .before .before .before)
 
 returns : tie.Need-returns
-returns c = c .send .ensures ∙ whole (c .before .before) .0 .0
+returns c = c .send .ensures ∙ whole (c .before .before .before) .0 .0
 
-pub print-call-spec : {M : Type 1} → statement M
-print-call-spec =
+pub print-text-spec : {M : Type 1} → statement M
+print-text-spec =
     tie.close
     (tie.spec
     first-line-requires
