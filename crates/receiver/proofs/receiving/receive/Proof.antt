@@ -4,7 +4,6 @@ use lib.Dec.{eqb}
 use Prim.Native.Nat.{_%_}
 use borrow.Author.Needs.{needs}
 use Rattle.bits.proofs.Every.{true-T}
-use Rattle.order.specs.Word.{wordBit}
 use Rattle.reading.specs.Reads.{readingFits}
 use Rattle.reading.proofs.Fits.{read-fits}
 use Rattle.receiver.specs.Steps.{step}
@@ -33,9 +32,7 @@ read-requires c κs = search needs
 step-requires : tie.Need-step-requires
 step-requires c κs =
     let fits = c .before .before in
-    let known = fits .before .before in
-    let g = wordBit 54 (known .word .given .0 .0) in
-    (sym (fits .is-valid .ensures) ∙ c .before .if1 .taken, ap readingFits (c .read .ensures) ∙ true-T _ (read-fits g))
+    (sym (fits .is-valid .ensures) ∙ c .before .if1 .taken, ap readingFits (c .read .ensures) ∙ true-T _ (read-fits _))
 
 refuse-requires-2 : tie.Need-refuse-requires-2
 refuse-requires-2 c κs = search needs

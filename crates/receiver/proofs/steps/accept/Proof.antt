@@ -1,5 +1,6 @@
 -- `receiver::steps::accept` meets its contract: each part of the result is what its call ensures. Assumes nothing.
 use mathlib.Core.Path.{subst⁻¹}
+use native.Mathlib.Omega.{arith}
 use borrow.Author.Needs.{needs}
 use Rattle.bits.proofs.Every.{T-true}
 use Rattle.sets.proofs.Ranges.{IndexRanges, set-ranges}
@@ -27,7 +28,7 @@ first-level-of-requires : tie.Need-first-level-of-requires
 first-level-of-requires c κs =
     let s = c .before .before .before .before in
     let r = ranges (c .before) in
-    (r .g2, r .g1, valid-g2 (s .args .rec) (T-true _ (s .pre .0)))
+    (omega (arith, r .g2), omega (arith, r .g1), omega (arith, valid-g2 (s .args .rec) (T-true _ (s .pre .0))))
 
 level-of-requires : tie.Need-level-of-requires
 level-of-requires c κs = ranges (c .before .before) .g2
