@@ -11,7 +11,7 @@ mod values;
 ghost use Rattle.io.specs.Counts.{Counts};
 
 // A file to the front of a buffer, and how many bytes came; none where there is no such file. A file that
-// fills the buffer is longer than any good codebook, and refused (proofs/LongFiles).
+// fills the buffer is longer than any good codebook, and what follows changes nothing (specs/Printed).
 fn read_file(path: &[u8], text: &mut [u8; 65536]) -> usize
     ensures { λ r. ⌜ Counts r (now (text .exit)) ⌝ }
 {
@@ -24,7 +24,8 @@ fn read_file(path: &[u8], text: &mut [u8; 65536]) -> usize
     got
 }
 
-// Reads the frame and the texts of both codebooks, and prints what they give.
+// Reads the frame and the texts of both codebooks, and prints what they give. An eighth byte of input tells a
+// frame from a longer input.
 fn main() {
     let mut input = [0u8; 8];
     let size = io::read_full(0, &mut input);
