@@ -1,4 +1,5 @@
--- Document 01, "LSF and magnitude values": the rows of a codebook (document 01's book). Numbers are in millionths, of a hertz for LSF.
+-- Document 01, "LSF and magnitude values": the rows of a codebook (document 01's book). The LSF codebook is that of MIL-STD-3005, 5.3.4 and
+-- tables IV to VII, the codebook of magnitudes that of 5.3.5 and table VIII. Numbers are in millionths, of a hertz for LSF.
 use Prim.Native.Nat.{ℕ, zero, suc, _+_, _*_}
 use mathlib.Core.Bool.{Bool, true, _&&_, cond}
 use mathlib.Core.List.{List, [], _∷_}
@@ -7,15 +8,15 @@ use lib.ListN.{length, take, drop}
 use lib.IntN.{ℤ, pos, negℤ}
 use lib.Signed.{leZ}
 
--- how many numbers the LSF codebook has: 320 rows of ten
+-- how many numbers the LSF codebook has: the 320 rows of its four stages (5.3.4), ten in a row
 abbrev pub lsfSize : ℕ
 lsfSize = 3200
 
--- and the magnitude codebook: 256 rows of ten
+-- and the magnitude codebook: 256 rows (5.3.5) of ten
 abbrev pub magnitudeSize : ℕ
 magnitudeSize = 2560
 
--- the rows of a stage: 128 in stage 1, 64 in each of stages 2 to 4, and there is no other stage
+-- the rows of a stage: 128 in stage 1, 64 in each of stages 2 to 4 (5.3.4: indices of 7, 6, 6 and 6 bits), and there is no other stage
 abbrev pub stageRows : ℕ → ℕ
 stageRows stage = cond (eqb stage 1) 128 (cond (leb 2 stage && leb stage 4) 64 0)
 
@@ -28,15 +29,15 @@ stageStart (suc stage) = stageStart stage + stageRows stage
 abbrev pub rowAt : List ℤ → ℕ → List ℤ
 rowAt codebook k = take 10 (drop (10 * k) codebook)
 
--- the row of a stage that an index names
+-- the row of a stage that an index names (5.3.4)
 abbrev pub lsfRow : List ℤ → ℕ → ℕ → List ℤ
 lsfRow codebook stage index = rowAt codebook (stageStart stage + index)
 
--- the row of magnitudes that an index names
+-- the row of magnitudes that an index names (5.3.5)
 abbrev pub magnitudeRow : List ℤ → ℕ → List ℤ
 magnitudeRow codebook index = rowAt codebook index
 
--- the limits of an entry, both ends included
+-- the limits of an entry, both ends included; the standard has none, they are number 7 of "Refusals by place"
 abbrev pub between : ℤ → ℤ → ℤ → Bool
 between least most z = leZ least z && leZ z most
 
@@ -53,7 +54,7 @@ unfoldable pub allFit : (ℤ → Bool) → List ℤ → Bool
 allFit fits [] = true
 allFit fits (z ∷ zs) = fits z && allFit fits zs
 
--- the refusal, 0 is none: 5 unless the parameter is in range, then 6 unless the codebook is whole, then 7 unless the entries in use fit
+-- the refusal ("Refusals by place"), 0 is none: 5 unless the parameter is in range, then 6 unless the codebook is whole, then 7 unless the entries in use fit
 abbrev pub refusal : Bool → Bool → Bool → ℕ
 refusal inRange whole fit = cond inRange (cond whole (cond fit 0 7) 6) 5
 

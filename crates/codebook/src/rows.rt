@@ -1,4 +1,4 @@
-// Rows of ten numbers in a lent codebook.
+// Rows of ten numbers in a lent codebook, of LSF (MIL-STD-3005, 5.3.4) or of magnitudes (5.3.5).
 use crate::limits::LSF_LEAST;
 use crate::limits::LSF_MOST;
 use crate::limits::MAGNITUDE_MOST;

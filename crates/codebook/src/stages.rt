@@ -1,4 +1,4 @@
-// The stages of the LSF codebook.
+// The stages of the LSF codebook (MIL-STD-3005, 5.3.4).
 ghost use mathlib.Core.Path.{_≡_};
 ghost use Prim.Native.Nat.{_≤_};
 ghost use Rattle.codebook.specs.Rows.{stageRows, stageStart};

@@ -1,4 +1,5 @@
--- The text form of a codebook (document 01, "LSF and magnitude values"): what a reader takes, and what a call answers and leaves.
+-- The text form of a codebook (document 01, "LSF and magnitude values"): what a reader takes, and what a call answers and leaves. The form is
+-- document 01's; the numbers are those of MIL-STD-3005, tables IV to VII (5.3.4) or table VIII (5.3.5).
 -- Bytes are numbers; 10 ends a line, 45 is the minus, 48 to 57 are the digits.
 use Prim.Native.Nat.{ℕ, zero, suc, _+_, _-_, _*_}
 use mathlib.Core.Path.{_≡_}
@@ -44,7 +45,7 @@ unfoldable pub allDigits : List ℕ → Bool
 allDigits [] = true
 allDigits (c ∷ cs) = isDigit c && allDigits cs
 
--- one to ten digits
+-- one to ten digits ("then one to ten digits; leading zeros pass")
 unfoldable pub isDigits : List ℕ → Bool
 isDigits cs = leb 1 (length cs) && leb (length cs) 10 && allDigits cs
 
@@ -57,7 +58,7 @@ valueAfter v (c ∷ cs) = valueAfter (10 * v + (c - 48)) cs
 abbrev pub digitsValue : List ℕ → ℕ
 digitsValue cs = valueAfter 0 cs
 
--- a good line: a minus or none, then one to ten digits, and no minus before a value of 0
+-- a good line ("a minus where negative, then one to ten digits", "a minus before a zero value is bad")
 unfoldable pub isNumber : List ℕ → Bool
 isNumber line = isDigits (unsigned line) && not (isNegative line && eqb (digitsValue (unsigned line)) 0)
 
@@ -75,7 +76,7 @@ abbrev pub isEmpty : List ℕ → Bool
 isEmpty [] = true
 isEmpty (c ∷ cs) = false
 
--- a text of n good lines, each ended, and nothing more
+-- a text of n good lines, each ended by one LF, and nothing more
 unfoldable pub isLines : ℕ → List ℕ → Bool
 isLines zero text = isEmpty text
 isLines (suc n) text = isEnded text && isNumber (lineOf text) && isLines n (afterLine text)

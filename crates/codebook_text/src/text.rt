@@ -9,7 +9,7 @@ ghost use Prim.Native.Nat.{_+_, _≤_};
 ghost use lib.ListN.{length, drop};
 ghost use Rattle.codebook_text.specs.Text.{lineOf, isLines, numbers, textAnswer, textWrites};
 
-// The LSF codebook from its text, 3,200 lines. Refused: 6, a buffer of another size or any other text.
+// The LSF codebook (MIL-STD-3005, 5.3.4) from its text, 3,200 lines. Refused: 6, a buffer of another size or any other text.
 pub fn read_lsf(text: &[u8], codebook: &mut [i64]) -> TextAnswer
     ensures answer { λ r. ⌜ r ≡ textAnswer 3200 (now (text .entry)) (length (now (codebook .entry))) ⌝ }
     ensures written { λ _. ⌜ now (codebook .exit) ≡ textWrites 3200 (now (text .entry)) (now (codebook .entry)) ⌝ }
@@ -17,7 +17,7 @@ pub fn read_lsf(text: &[u8], codebook: &mut [i64]) -> TextAnswer
     read(text, codebook, 3200)
 }
 
-// The codebook of magnitudes from its text, 2,560 lines. Refused: 6, a buffer of another size or any other text.
+// The codebook of magnitudes (5.3.5) from its text, 2,560 lines. Refused: 6, a buffer of another size or any other text.
 pub fn read_magnitudes(text: &[u8], codebook: &mut [i64]) -> TextAnswer
     ensures answer { λ r. ⌜ r ≡ textAnswer 2560 (now (text .entry)) (length (now (codebook .entry))) ⌝ }
     ensures written { λ _. ⌜ now (codebook .exit) ≡ textWrites 2560 (now (text .entry)) (now (codebook .entry)) ⌝ }

@@ -5,3 +5,4 @@ pub mod Spaced
 pub mod Tens
 pub mod Owed
 pub mod FourRows
+pub mod Examples

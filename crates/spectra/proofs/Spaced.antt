@@ -1,23 +1,19 @@
--- What raising does to any list: the first value is at least 50 Hz and each next at least 50 Hz above the one before,
--- and values that are so already stay. Sums of four entries within the limit stay within four times the limit. Assumes nothing.
+-- What is promised of LSF values: raising spaces any list and leaves one that is spaced, by its two steps; sums of four entries within
+-- the limit stay within four times the limit, by the sizes of sums. Assumes nothing.
 use mathlib.Core.Path.{_≡_, refl, ap, _∙_}
 use mathlib.Core.Bool.{Bool, true, false, cond, and-eq-true-iff}
 use mathlib.Core.List.{List, [], _∷_}
 use Prim.Native.Nat.{_≤_}
 use native.Mathlib.Omega.{arith}
-use lib.IntN.{ℤ, pos, negsuc, negℤ, natAbs, _+ℤ_}
+use lib.IntN.{ℤ, pos, negsuc, natAbs, _+ℤ_}
 use lib.Signed.{ltZ, _≤ℤ_, ≤ℤ-refl, ltZ-yes, ltZ-no, clashℤ}
 use borrow.Author.Tests.{le-leb}
 use Rattle.sets.specs.declared.ParameterSet.{ParameterSet}
-use Rattle.codebook.specs.Rows.{between, lsfFits, allFit}
+use Rattle.codebook.specs.Rows.{lsfFits, allFit}
 use Rattle.spectra.specs.Values.{added, addedFour, larger, spacing, raised, rowsFit, lsfValues}
+use Rattle.spectra.specs.Spacing.{Spaced, sumFits, LsfSpacing}
 use Rattle.spectra.proofs.FourRows.{and-four}
 use Rattle.spectra.proofs.Sizes.{four-abs}
-
--- values of which the first is at least `least`, and each next at least the one before plus 50 Hz
-unfoldable pub Spaced : ℤ → List ℤ → Type 0
-Spaced least [] = Unit
-Spaced least (x ∷ xs) = (least ≤ℤ x) × Spaced (x +ℤ spacing) xs
 
 -- the larger of two is at least the second
 larger-least : (x least : ℤ) → least ≤ℤ larger x least
@@ -54,10 +50,6 @@ pub lsf-spaced : (codebook : List ℤ) (set : ParameterSet) → Spaced spacing (
 unfolding lsfValues
 lsf-spaced codebook set = raised-spaced spacing _
 
--- within 16,000,000,000 of 0
-abbrev pub sumFits : ℤ → Bool
-sumFits = between (negℤ (pos 16000000000)) (pos 16000000000)
-
 -- a size within the bound
 sum-fits : (z : ℤ) → natAbs z ≤ 16000000000 → sumFits z ≡ true
 sum-fits (pos n) h = le-leb n 16000000000 h
@@ -78,3 +70,7 @@ sums-fit (w ∷ a) (x ∷ b) (y ∷ c) (z ∷ d) h =
     let ez = and-eq-true-iff (lsfFits z) (allFit lsfFits d) .0 (e .3) in
     let here = sum-fits (w +ℤ x +ℤ y +ℤ z) (four-abs w x y z (ew .0) (ex .0) (ey .0) (ez .0)) in
     rw (here, sums-fit a b c d (rw (ew .1, ex .1, ey .1, ez .1) refl)) refl
+
+-- all together
+pub lsf-spacing : LsfSpacing
+lsf-spacing = record { apart = lsf-spaced; kept = spaced-kept; bounded = sums-fit }

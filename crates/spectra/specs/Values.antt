@@ -1,4 +1,5 @@
 -- Document 01, "LSF and magnitude values" and "Refusals by place": the ten values of a set, and what a call for them answers and leaves.
+-- LSF values are those of MIL-STD-3005, 5.3.4, magnitudes those of 5.3.5.
 use Prim.Native.Nat.{ℕ, zero, suc}
 use mathlib.Core.Bool.{Bool, true, _&&_, cond}
 use mathlib.Core.List.{List, [], _∷_}
@@ -21,7 +22,7 @@ added [] ys = []
 added (x ∷ xs) [] = []
 added (x ∷ xs) (y ∷ ys) = (x +ℤ y) ∷ added xs ys
 
--- four rows added
+-- four rows added (5.3.4: the sum of the vectors, one of each stage)
 abbrev pub addedFour : List ℤ → List ℤ → List ℤ → List ℤ → List ℤ
 addedFour a b c d = added (added (added a b) c) d
 
@@ -29,11 +30,12 @@ addedFour a b c d = added (added (added a b) c) d
 abbrev pub larger : ℤ → ℤ → ℤ
 larger x y = cond (ltZ x y) y x
 
--- 50 Hz: the least that component 1 may be, and the least that two neighbours may lie apart
+-- 50 Hz: the least that two neighbours may lie apart (5.3.4), and the least that component 1 may be
 abbrev pub spacing : ℤ
 spacing = pos 50000000
 
--- each component raised to at least what is asked of it: `least` of the first, of each next the one before plus 50 Hz
+-- each component raised to at least what is asked of it: `least` of the first, of each next the one before plus 50 Hz (the rule of document 01
+-- for 5.3.4, which leaves open how values are moved apart)
 unfoldable pub raised : ℤ → List ℤ → List ℤ
 raised least [] = []
 raised least (x ∷ xs) = let y = larger x least in y ∷ raised (y +ℤ spacing) xs
@@ -46,15 +48,15 @@ rowsValues a b c d = raised spacing (addedFour a b c d)
 abbrev pub rowsFit : List ℤ → List ℤ → List ℤ → List ℤ → Bool
 rowsFit a b c d = allFit lsfFits a && allFit lsfFits b && allFit lsfFits c && allFit lsfFits d
 
--- of what a set's four rows give: L1 names the row of stage 1, L2 of stage 2, L3 of stage 3, L4 of stage 4
+-- of what a set's four rows give (5.3.4): L1 names the row of stage 1, L2 of stage 2, L3 of stage 3, L4 of stage 4
 abbrev pub ofRows : {A : Type 0} → (List ℤ → List ℤ → List ℤ → List ℤ → A) → List ℤ → Indices → A
 ofRows f codebook x = f (lsfRow codebook 1 (x .l1)) (lsfRow codebook 2 (x .l2)) (lsfRow codebook 3 (x .l3)) (lsfRow codebook 4 (x .l4))
 
--- the LSF values of a set
+-- the LSF values of a set (5.3.4)
 unfoldable pub lsfValues : List ℤ → ParameterSet → List ℤ
 lsfValues codebook set = ofRows rowsValues codebook (indicesIn set)
 
--- the magnitudes of a set: all 1 where it is unvoiced, else row F
+-- the magnitudes of a set: row F (5.3.5); all 1 where it is unvoiced, for such a frame sends none (5.4)
 abbrev pub magnitudes : List ℤ → ParameterSet → List ℤ
 magnitudes codebook (Unvoiced x) = replicate 10 (pos 1000000)
 magnitudes codebook (Voiced x v) = magnitudeRow codebook (v .fourier)

@@ -1,4 +1,4 @@
-// Sums of four rows, raised so that neighbours lie apart.
+// Sums of four rows, raised so that neighbours lie apart (MIL-STD-3005, 5.3.4).
 ghost use mathlib.Core.Path.{_≡_};
 ghost use mathlib.Core.Bool.{true};
 ghost use mathlib.Core.List.{_++_};

@@ -1,4 +1,4 @@
-// LSF values and magnitudes of a parameter set.
+// LSF values (MIL-STD-3005, 5.3.4) and Fourier magnitudes (5.3.5) of a parameter set.
 use crate::ValuesAnswer;
 use crate::raising::write_raised;
 use crate::writing::write_row;

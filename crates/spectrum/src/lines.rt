@@ -12,8 +12,7 @@ ghost use Rattle.report.specs.Placing.{Appended};
 ghost use Rattle.spectrum.specs.Lines.{lines, text};
 
 // All that the program prints, to the front of a buffer; how many bytes it is.
-pub(crate) fn write_text(spectrum: Spectrum, out: &mut [u8]) -> usize
-    requires { ⌜ length (now out) ≡ 512 ⌝ }
+pub(crate) fn write_text(spectrum: Spectrum, out: &mut [u8; 512]) -> usize
     ensures printed { λ r. ⌜ take r (now (out .exit)) ≡ text spectrum ⌝ }
     ensures size { λ r. ⌜ Counts r (now (out .exit)) ⌝ }
 {

@@ -16,16 +16,13 @@ refusal-line-requires c κs = search needs
 end-of-requires : tie.Need-end-of-requires
 end-of-requires c κs = search needs
 
-same-length : tie.Need-same-length
-same-length c = search needs
-
 returns : tie.Need-returns
 returns c =
-    let w = c .before .before .before in
+    let w = c .before in
     let t = w .before .before in
-    let a = t .before .before .before in
+    let a = t .before .before in
     let s = a .args .spectrum in
-    let q = line-added (refusalLine (s .refusal)) (a .args .out .now) _ 0 22 _ _ (w .refusal-line .ensures) (c .end-of .ensures) (omega (arith, a .pre)) in (
+    let q = line-added (refusalLine (s .refusal)) (a .args .out .now) _ 0 22 _ _ (w .refusal-line .ensures) (c .end-of .ensures) (omega (arith, w .before .refusal-line-arg .given)) in (
       q .0 .1 ∙ text-refused (s .refusal) (s .lsf) (s .magnitudes) (t .if1 .taken),
       counted _ _ (omega (arith, q .1)),
     )
@@ -36,21 +33,16 @@ write-lines-requires c κs = search needs
 write-lines-requires-2 : tie.Need-write-lines-requires-2
 write-lines-requires-2 c κs = search needs
 
-same-length-2 : tie.Need-same-length-2
-same-length-2 c = search needs
-
 returns-2 : tie.Need-returns-2
 returns-2 c =
-    let w = c .before .before in
-    let v = w .before .before .before .before in
+    let v = c .before .before in
     let e = v .before .before .before .before in
-    let a = e .before .before .before .args in
+    let a = e .before .before .args in
     let s = a .spectrum in
-    let g = appended-more (a .out .now) _ _ 0 _ _ (lines (s .lsf)) (lines (s .magnitudes)) (v .write-lines .ensures .0) (w .write-lines2 .ensures .0) in (
+    let g = appended-more (a .out .now) _ _ 0 _ _ (lines (s .lsf)) (lines (s .magnitudes)) (v .write-lines .ensures .0) (c .write-lines2 .ensures .0) in (
       g .1 ∙ text-values (s .refusal) (s .lsf) (s .magnitudes) (e .if1 .left),
-      counted _ _ (omega (arith, v .write-lines .ensures .1, w .write-lines2 .ensures .1)),
+      counted _ _ (omega (arith, v .write-lines .ensures .1, c .write-lines2 .ensures .1)),
     )
 
 pub write-text-spec : {M : Type 1} → statement M
-write-text-spec =
-    tie.close (tie.spec refusal-line-requires end-of-requires same-length returns write-lines-requires write-lines-requires-2 same-length-2 returns-2)
+write-text-spec = tie.close (tie.spec refusal-line-requires end-of-requires returns write-lines-requires write-lines-requires-2 returns-2)
