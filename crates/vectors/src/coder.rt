@@ -1,4 +1,5 @@
 // Vectors of packing, the pitch code and the words.
+use crate::vector::count;
 use crate::vector::set_of;
 use frame::PackAnswer;
 use hamming::Decoded;
@@ -7,44 +8,41 @@ use pitch::ClassAnswer;
 use pitch::CodeAnswer;
 use pitch::PitchClass;
 
-// What the output holds before a call.
-const FILL: u8 = 165;
+// What each byte of the output holds before a call.
+const HELD: u8 = 165;
 
 // Whether the answer is the one of bytes 14 and 15.
-fn answer_agrees(r: [u8; 64], answer: PackAnswer) -> bool {
+fn answer_agrees(r: &[u8; 256], answer: PackAnswer) -> bool {
     match answer {
         PackAnswer::Packed(next) => (r[14] == 0) & ((r[15] == 1) == next),
         PackAnswer::Refused(n) => (n != 0) & (r[14] == n),
     }
 }
 
-// Whether the output is the frame of bytes 16 to 22 with the rest as it was, or all as it was.
-fn output_agrees(r: [u8; 64], out: [u8; 16]) -> bool {
+// Whether the output is as bytes 16 to 31 say: seven bytes of a frame, and by which bits the others differ from
+// what they held; after a refusal all are such others.
+fn output_agrees(r: &[u8; 256], out: &[u8; 16]) -> bool {
     let mut same = true;
     for i in 0..16 {
-        let expected = if (r[14] == 0) & (i < 7) {
-            r[16 + i]
-        } else {
-            FILL
-        };
-        same = same & (out[i] == expected);
+        let before = if (r[14] == 0) & (i < 7) { 0 } else { HELD };
+        same = same & (out[i] == before ^ r[16 + i]);
     }
     same
 }
 
 // Kind 1: packing.
-pub(crate) fn pack_agrees(r: [u8; 64]) -> bool {
-    let room = r[13] as usize;
+pub(crate) fn pack_agrees(r: &[u8; 256]) -> bool {
+    let room = count(r[13]);
     if 16 < room {
         return false;
     }
-    let mut out = [FILL; 16];
+    let mut out = [HELD; 16];
     let answer = frame::pack(set_of(r), r[12] == 1, &mut out[..room]);
-    answer_agrees(r, answer) & output_agrees(r, out)
+    answer_agrees(r, answer) & output_agrees(r, &out)
 }
 
 // Kind 2: the class of a pitch code.
-pub(crate) fn class_agrees(r: [u8; 64]) -> bool {
+pub(crate) fn class_agrees(r: &[u8; 256]) -> bool {
     match pitch::classify(r[1]) {
         ClassAnswer::Refused(n) => (n != 0) & (r[2] == n),
         ClassAnswer::Class(class) => match class {
@@ -56,7 +54,7 @@ pub(crate) fn class_agrees(r: [u8; 64]) -> bool {
 }
 
 // Kind 3: the code of a pitch index.
-pub(crate) fn code_agrees(r: [u8; 64]) -> bool {
+pub(crate) fn code_agrees(r: &[u8; 256]) -> bool {
     match pitch::encode(r[1]) {
         CodeAnswer::Refused(n) => (n != 0) & (r[2] == n),
         CodeAnswer::Code(code) => (r[2] == 0) & (r[3] == code),
@@ -64,7 +62,7 @@ pub(crate) fn code_agrees(r: [u8; 64]) -> bool {
 }
 
 // The length in byte 1; anything else than 6 or 7 is 8.
-fn length_of(r: [u8; 64]) -> WordLength {
+fn length_of(r: &[u8; 256]) -> WordLength {
     if r[1] == 6 {
         return WordLength::Six;
     }
@@ -75,7 +73,7 @@ fn length_of(r: [u8; 64]) -> WordLength {
 }
 
 // Kind 4: what a word is read as.
-pub(crate) fn word_agrees(r: [u8; 64]) -> bool {
+pub(crate) fn word_agrees(r: &[u8; 256]) -> bool {
     match hamming::decode(length_of(r), r[2]) {
         Decoded::Erased => r[3] == 1,
         Decoded::Read(data, repaired) => (r[3] == 0) & (r[4] == data) & (r[5] == repaired),
@@ -83,6 +81,6 @@ pub(crate) fn word_agrees(r: [u8; 64]) -> bool {
 }
 
 // Kind 5: the parity of data.
-pub(crate) fn parity_agrees(r: [u8; 64]) -> bool {
+pub(crate) fn parity_agrees(r: &[u8; 256]) -> bool {
     hamming::parity_of(length_of(r), r[2]) == r[3]
 }

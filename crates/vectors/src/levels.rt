@@ -12,12 +12,12 @@ fn level_agrees(answer: LevelAnswer, refusal: u8, level: u32) -> bool {
 }
 
 // Kind 6: a first level.
-pub(crate) fn first_agrees(r: [u8; 64]) -> bool {
+pub(crate) fn first_agrees(r: &[u8; 256]) -> bool {
     level_agrees(gain::first_level(r[1], r[2], r[3]), r[4], wide(r[5], r[6]))
 }
 
 // Kind 7: a second level.
-pub(crate) fn second_agrees(r: [u8; 64]) -> bool {
+pub(crate) fn second_agrees(r: &[u8; 256]) -> bool {
     level_agrees(gain::level(r[1]), r[2], wide(r[3], r[4]))
 }
 
@@ -31,7 +31,7 @@ fn signed(a: u8, b: u8, c: u8, d: u8) -> i32 {
 }
 
 // Kind 8: gain codes chosen.
-pub(crate) fn choice_agrees(r: [u8; 64]) -> bool {
+pub(crate) fn choice_agrees(r: &[u8; 256]) -> bool {
     let first = signed(r[1], r[2], r[3], r[4]);
     let second = signed(r[5], r[6], r[7], r[8]);
     match quantiser::choose(first, second, r[9]) {

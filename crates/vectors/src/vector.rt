@@ -1,19 +1,16 @@
-// The 64 bytes of a vector, and what stands in them.
+// The 256 bytes of a vector, and the numbers and sets that stand in them.
 use sets::Indices;
 use sets::ParameterSet;
 use sets::Voicing;
-ghost use Prim.Native.Nat.{_/_, _<_};
+ghost use mathlib.Core.Path.{_≡_};
+ghost use Prim.Native.Nat.{_+_, _≤_, _<_};
 ghost use lib.ListN.{length};
 
-// Vector i of a slice.
-pub(crate) fn at(s: &[u8], i: usize) -> [u8; 64]
-    requires { ⌜ i < length (now s) / 64 ⌝ }
+// A byte as a count.
+pub(crate) fn count(x: u8) -> usize
+    ensures { λ r. ⌜ r < 256 ⌝ }
 {
-    let mut r = [0u8; 64];
-    for k in 0..64 {
-        r[k] = s[i * 64 + k];
-    }
-    r
+    x as usize
 }
 
 // Two bytes as a number, the high one first.
@@ -23,8 +20,59 @@ pub(crate) fn wide(high: u8, low: u8) -> u32
     high as u32 * 256 + low as u32
 }
 
+// Four bytes as a number, the high one first.
+fn quad(a: u8, b: u8, c: u8, d: u8) -> u64
+    ensures { λ r. ⌜ r < 4294967296 ⌝ }
+{
+    wide(a, b) as u64 * 65536 + wide(c, d) as u64
+}
+
+// The four bytes from `at`.
+fn quad_at(r: &[u8; 256], at: usize) -> u64
+    requires { ⌜ at ≤ 252 ⌝ }
+    ensures { λ r. ⌜ r < 4294967296 ⌝ }
+{
+    quad(r[at], r[at + 1], r[at + 2], r[at + 3])
+}
+
+// The eight bytes from `at` as a number, the high one first.
+pub(crate) fn long_at(r: &[u8; 256], at: usize) -> u64
+    requires { ⌜ at ≤ 248 ⌝ }
+{
+    quad_at(r, at) * 4294967296 + quad_at(r, at + 4)
+}
+
+// A number read as a signed one in two's complement.
+pub(crate) fn signed(x: u64) -> i64 {
+    if x < 9223372036854775808 {
+        return x as i64;
+    }
+    -1 - (18446744073709551615 - x) as i64
+}
+
+// The part of some bytes that has this start and size; nothing where it does not fit.
+pub(crate) fn part(s: &[u8], start: usize, size: usize) -> &[u8] {
+    if start < s.len() {
+        if size <= s.len() - start {
+            return &s[start..start + size];
+        }
+    }
+    &s[0..0]
+}
+
+// Whether these are the bytes from `start`.
+pub(crate) fn bytes_agree(r: &[u8; 256], start: usize, bytes: &[u8]) -> bool
+    requires { ⌜ start + length (now bytes) ≤ 256 ⌝ }
+{
+    let mut same = true;
+    for k in 0..bytes.len() {
+        same = same & (r[start + k] == bytes[k]);
+    }
+    same
+}
+
 // The set in bytes 1 to 11.
-pub(crate) fn set_of(r: [u8; 64]) -> ParameterSet {
+pub(crate) fn set_of(r: &[u8; 256]) -> ParameterSet {
     let x = Indices {
         l1: r[3],
         l2: r[4],
@@ -43,4 +91,34 @@ pub(crate) fn set_of(r: [u8; 64]) -> ParameterSet {
         aperiodic: r[11],
     };
     ParameterSet::Voiced(x, v)
+}
+
+// A set as a vector has it.
+fn set_bytes(set: ParameterSet) -> [u8; 11]
+    ensures { λ r. ⌜ length r ≡ 11 ⌝ }
+{
+    match set {
+        ParameterSet::Unvoiced(x) => [0, 0, x.l1, x.l2, x.l3, x.l4, x.g2, x.g1, 0, 0, 0],
+        ParameterSet::Voiced(x, v) => [
+            1,
+            v.pitch,
+            x.l1,
+            x.l2,
+            x.l3,
+            x.l4,
+            x.g2,
+            x.g1,
+            v.bandpass,
+            v.fourier,
+            v.aperiodic,
+        ],
+    }
+}
+
+// Whether the set is the one in the eleven bytes from `start`.
+pub(crate) fn set_agrees(r: &[u8; 256], start: usize, set: ParameterSet) -> bool
+    requires { ⌜ start ≤ 245 ⌝ }
+{
+    let bytes = set_bytes(set);
+    bytes_agree(r, start, &bytes)
 }

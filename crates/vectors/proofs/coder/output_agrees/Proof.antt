@@ -13,17 +13,17 @@ abbrev μ-loop : tie.MeasureT-loop
 loop-holds : tie.Need-loop-holds Inv-loop μ-loop
 loop-holds c = search needs
 
-array-read-if1 : tie.Need-array-read-if1 Inv-loop μ-loop
-array-read-if1 c = search needs
+element-copy-out-if1 : tie.Need-element-copy-out-if1 Inv-loop μ-loop
+element-copy-out-if1 c = search needs
 
-add-expected : tie.Need-add-expected Inv-loop μ-loop
-add-expected c = search needs
+element-copy-out-same : tie.Need-element-copy-out-same Inv-loop μ-loop
+element-copy-out-same c = search needs
 
-array-read-expected : tie.Need-array-read-expected Inv-loop μ-loop
-array-read-expected c = search needs
+add-same : tie.Need-add-same Inv-loop μ-loop
+add-same c = search needs
 
-array-read-same : tie.Need-array-read-same Inv-loop μ-loop
-array-read-same c = search needs
+element-copy-out-same-2 : tie.Need-element-copy-out-same-2 Inv-loop μ-loop
+element-copy-out-same-2 c = search needs
 
 add-i : tie.Need-add-i Inv-loop μ-loop
 add-i c = search needs
@@ -44,10 +44,10 @@ output-agrees-spec =
     Inv-loop
     μ-loop
     loop-holds
-    array-read-if1
-    add-expected
-    array-read-expected
-    array-read-same
+    element-copy-out-if1
+    element-copy-out-same
+    add-same
+    element-copy-out-same-2
     add-i
     loop-less
     loop-again
