@@ -1,9 +1,11 @@
 // Vectors of codebooks: rows handed out, and values by them. A vector gives a codebook by a rule.
 use crate::vector::count;
 use crate::vector::long_at;
+use crate::vector::number_at;
+use crate::vector::refused;
 use crate::vector::set_of;
 use crate::vector::signed;
-use crate::vector::wide;
+use crate::vector::wide_at;
 use sets::ParameterSet;
 use spectra::ValuesAnswer;
 use std::num::wrapping_add_u64;
@@ -14,15 +16,18 @@ ghost use lib.ListN.{length};
 // What each number of an output or a buffer holds before a call.
 pub(crate) const HELD: i64 = -7;
 
-// The numbers start, start + step and so on, modulo 2 to the 64th.
-fn ruled(start: u64, step: u64) -> [i64; 3201]
-    ensures { λ r. ⌜ length r ≡ 3201 ⌝ }
-{
+// What is added to number i for the next one: `jump` after each tenth, otherwise `step`.
+fn added(i: usize, step: u64, jump: u64) -> u64 {
+    if i % 10 == 9 { jump } else { step }
+}
+
+// The numbers from `start` on, modulo 2 to the 64th.
+fn ruled(start: u64, step: u64, jump: u64) -> [i64; 3201] {
     let mut codebook = [HELD; 3201];
     let mut value = start;
     for i in 0..3201 {
         codebook[i] = signed(value);
-        value = wrapping_add_u64(value, step);
+        value = wrapping_add_u64(value, added(i, step, jump));
     }
     codebook
 }
@@ -38,22 +43,21 @@ fn replace(codebook: &mut [i64; 3201], place: usize, value: i64) {
 fn replace_by(codebook: &mut [i64; 3201], r: &[u8; 256], at: usize)
     requires { ⌜ at ≤ 246 ⌝ }
 {
-    let place = wide(r[at], r[at + 1]) as usize;
-    replace(codebook, place, signed(long_at(r, at + 2)));
+    replace(codebook, wide_at(r, at) as usize, number_at(r, at + 2));
 }
 
-// The numbers that bytes 18 to 63 give: the rule, and three replacements.
+// The numbers that bytes 18 to 71 give: the rule, and three replacements.
 pub(crate) fn codebook_of(r: &[u8; 256]) -> [i64; 3201] {
-    let mut codebook = ruled(long_at(r, 18), long_at(r, 26));
-    replace_by(&mut codebook, r, 34);
-    replace_by(&mut codebook, r, 44);
-    replace_by(&mut codebook, r, 54);
+    let mut codebook = ruled(long_at(r, 18), long_at(r, 26), long_at(r, 34));
+    replace_by(&mut codebook, r, 42);
+    replace_by(&mut codebook, r, 52);
+    replace_by(&mut codebook, r, 62);
     codebook
 }
 
 // How many of them are lent, by bytes 16 and 17.
 pub(crate) fn size_of(r: &[u8; 256]) -> usize {
-    wide(r[16], r[17]) as usize
+    wide_at(r, 16) as usize
 }
 
 // The first `size` of them; none where there are not so many.
@@ -77,20 +81,20 @@ pub(crate) fn is_same(a: &[i64], b: &[i64]) -> bool {
     same
 }
 
-// The twelve numbers from byte 66.
+// The twelve numbers from byte 74.
 fn numbers_of(r: &[u8; 256]) -> [i64; 12]
     ensures { λ r. ⌜ length r ≡ 12 ⌝ }
 {
     let mut numbers = [HELD; 12];
     for k in 0..12 {
-        numbers[k] = signed(long_at(r, 66 + 8 * k));
+        numbers[k] = number_at(r, 74 + 8 * k);
     }
     numbers
 }
 
-// Whether a row is the one from byte 65 on: how many numbers, and these.
+// Whether a row is the one from byte 73 on: how many numbers, and these.
 fn row_agrees(r: &[u8; 256], row: &[i64]) -> bool {
-    let size = count(r[65]);
+    let size = count(r[73]);
     if 12 < size {
         return false;
     }
@@ -100,15 +104,17 @@ fn row_agrees(r: &[u8; 256], row: &[i64]) -> bool {
 
 // Kind 16: a row of the LSF codebook, and its refusal.
 fn lsf_row_agrees(r: &[u8; 256], codebook: &[i64]) -> bool {
-    let row = codebook::lsf_row(codebook, r[1], r[2]);
-    row_agrees(r, row) & (r[64] == codebook::lsf_row_refusal(codebook, r[1], r[2]))
+    let stage = r[1];
+    let index = r[2];
+    let refusal = codebook::lsf_row_refusal(codebook, stage, index);
+    (r[72] == refusal) & row_agrees(r, codebook::lsf_row(codebook, stage, index))
 }
 
 // Kind 17: a row of the magnitude codebook, and its refusal.
 fn magnitude_row_agrees(r: &[u8; 256], codebook: &[i64]) -> bool {
-    let index = wide(r[1], r[2]) as u16;
-    let row = codebook::magnitude_row(codebook, index);
-    row_agrees(r, row) & (r[64] == codebook::magnitude_row_refusal(codebook, index))
+    let index = wide_at(r, 1) as u16;
+    let refusal = codebook::magnitude_row_refusal(codebook, index);
+    (r[72] == refusal) & row_agrees(r, codebook::magnitude_row(codebook, index))
 }
 
 // Values of a set by a codebook: LSF values in kind 18, magnitudes in kind 19.
@@ -119,15 +125,15 @@ fn values(kind: u8, set: ParameterSet, codebook: &[i64], out: &mut [i64]) -> Val
     spectra::magnitudes(set, codebook, out)
 }
 
-// Whether the answer is the one in byte 64.
-fn answer_agrees(r: &[u8; 256], answer: ValuesAnswer) -> bool {
+// The refusal in an answer, 0 is none.
+fn refusal_of(answer: ValuesAnswer) -> u8 {
     match answer {
-        ValuesAnswer::Written => r[64] == 0,
-        ValuesAnswer::Refused(n) => (n != 0) & (r[64] == n),
+        ValuesAnswer::Written => 0,
+        ValuesAnswer::Refused(n) => refused(n),
     }
 }
 
-// Whether the output is the twelve numbers from byte 66.
+// Whether the output is the twelve numbers from byte 74.
 fn output_agrees(r: &[u8; 256], out: &[i64; 12]) -> bool {
     let numbers = numbers_of(r);
     is_same(out, &numbers)
@@ -141,7 +147,7 @@ fn values_agree(r: &[u8; 256], codebook: &[i64]) -> bool {
     }
     let mut out = [HELD; 12];
     let answer = values(r[0], set_of(r), codebook, &mut out[..room]);
-    answer_agrees(r, answer) & output_agrees(r, &out)
+    (r[72] == refusal_of(answer)) & output_agrees(r, &out)
 }
 
 // A call of kinds 16 to 19 with a codebook.

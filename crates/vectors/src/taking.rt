@@ -1,16 +1,22 @@
 // Vectors of receiving and of a receiver's record.
+use crate::vector::bit;
+use crate::vector::bytes_agree;
 use crate::vector::count;
 use crate::vector::part;
+use crate::vector::refused;
 use crate::vector::set_agrees;
 use crate::vector::set_of;
-use crate::vector::wide;
+use crate::vector::wide_at;
+use crate::vector::wide_bytes;
 use receiver::FrameResult;
 use receiver::Kind;
 use receiver::ReceiveAnswer;
 use receiver::Received;
 use records::FrameKind;
 use records::Record;
-ghost use Prim.Native.Nat.{_≤_};
+ghost use mathlib.Core.Path.{_≡_};
+ghost use Prim.Native.Nat.{_≤_, _<_};
+ghost use lib.ListN.{length};
 
 // The sixteen kinds by their bits, 1 for a repeat, the oldest most significant.
 fn kinds_of(bits: u32) -> [FrameKind; 16] {
@@ -25,36 +31,41 @@ fn kinds_of(bits: u32) -> [FrameKind; 16] {
     kinds
 }
 
+// The bits of sixteen kinds.
+fn bits_of(kinds: [FrameKind; 16]) -> u32 {
+    let mut bits: u32 = 0;
+    for i in 0..16 {
+        let kind = kinds[i];
+        bits = bits % 32768 * 2 + bit(kind.repeat) as u32;
+    }
+    bits
+}
+
 // The record in bytes 1 to 14.
 fn record_of(r: &[u8; 256]) -> Record {
     Record {
         last: set_of(r),
         g2: r[12],
-        kinds: kinds_of(wide(r[13], r[14])),
+        kinds: kinds_of(wide_at(r, 13)),
     }
 }
 
-// Whether the sixteen kinds have these bits.
-fn kinds_agree(kinds: [FrameKind; 16], bits: u32) -> bool {
-    let mut same = true;
-    let mut left = bits;
-    for i in 0..16 {
-        let kind = kinds[15 - i];
-        same = same & (kind.repeat == (left % 2 == 1));
-        left = left / 2;
-    }
-    same
+// What a record has besides its last set: the last G2, and the kinds.
+fn history_bytes(rec: Record) -> [u8; 3]
+    ensures { λ r. ⌜ length r ≡ 3 ⌝ }
+{
+    let kinds = rec.kinds;
+    let bytes = wide_bytes(bits_of(kinds));
+    [rec.g2, bytes[0], bytes[1]]
 }
 
 // Whether the record is the one in the fourteen bytes from `start`.
-fn is_record(r: &[u8; 256], start: usize, rec: Record) -> bool
+fn record_agrees(r: &[u8; 256], start: usize, rec: Record) -> bool
     requires { ⌜ start ≤ 242 ⌝ }
 {
     let last = rec.last;
-    let kinds = rec.kinds;
-    set_agrees(r, start, last)
-        & (rec.g2 == r[start + 11])
-        & kinds_agree(kinds, wide(r[start + 12], r[start + 13]))
+    let history = history_bytes(rec);
+    set_agrees(r, start, last) & bytes_agree(r, start + 11, &history)
 }
 
 // The number of a result's kind.
@@ -66,31 +77,38 @@ fn number_of(kind: Kind) -> u8 {
     }
 }
 
-// Whether both levels are those in bytes 38 to 41.
-fn levels_agree(r: &[u8; 256], first: u32, second: u32) -> bool {
-    (first == wide(r[38], r[39])) & (second == wide(r[40], r[41]))
-}
-
-// Whether mute, the sync bit and the repaired count are those in bytes 42 to 44.
-fn marks_agree(r: &[u8; 256], mute: bool, sync: bool, repaired: u8) -> bool {
-    ((r[42] == 1) == mute) & ((r[43] == 1) == sync) & (r[44] == repaired)
+// What a result has besides its kind and its set: both levels, mute, the sync bit and the repaired count.
+fn marks_bytes(result: FrameResult) -> [u8; 7]
+    ensures { λ r. ⌜ length r ≡ 7 ⌝ }
+{
+    let first = wide_bytes(result.first);
+    let second = wide_bytes(result.second);
+    let mute = bit(result.mute);
+    let sync = bit(result.sync);
+    [
+        first[0],
+        first[1],
+        second[0],
+        second[1],
+        mute,
+        sync,
+        result.repaired,
+    ]
 }
 
 // Whether the result is the one in bytes 26 to 44.
 fn result_agrees(r: &[u8; 256], result: FrameResult) -> bool {
     let kind = result.kind;
     let set = result.set;
-    (r[26] == number_of(kind))
-        & set_agrees(r, 27, set)
-        & levels_agree(r, result.first, result.second)
-        & marks_agree(r, result.mute, result.sync, result.repaired)
+    let marks = marks_bytes(result);
+    (r[26] == number_of(kind)) & set_agrees(r, 27, set) & bytes_agree(r, 38, &marks)
 }
 
-// Whether the answer is the one in bytes 25 to 44.
+// Whether the answer is the one in bytes 25 to 44; of a refusal there is only its number.
 fn answer_agrees(r: &[u8; 256], answer: ReceiveAnswer) -> bool {
     match answer {
         ReceiveAnswer::Result(result) => (r[25] == 0) & result_agrees(r, result),
-        ReceiveAnswer::Refused(n) => (n != 0) & (r[25] == n),
+        ReceiveAnswer::Refused(n) => r[25] == refused(n),
     }
 }
 
@@ -98,7 +116,7 @@ fn answer_agrees(r: &[u8; 256], answer: ReceiveAnswer) -> bool {
 fn received_agrees(r: &[u8; 256], received: Received) -> bool {
     let answer = received.answer;
     let next = received.next;
-    answer_agrees(r, answer) & is_record(r, 45, next)
+    answer_agrees(r, answer) & record_agrees(r, 45, next)
 }
 
 // Kind 9: receiving.
@@ -111,16 +129,18 @@ pub(crate) fn receive_agrees(r: &[u8; 256]) -> bool {
 }
 
 // Kind 14: whether a record is valid, whether its kinds mute, and the kinds after one more.
-pub(crate) fn record_agrees(r: &[u8; 256]) -> bool {
+pub(crate) fn kinds_agree(r: &[u8; 256]) -> bool {
     let rec = record_of(r);
     let kinds = rec.kinds;
     let kind = FrameKind { repeat: r[15] == 1 };
-    ((r[16] == 1) == records::is_valid(rec))
-        & ((r[17] == 1) == records::is_muted(kinds))
-        & kinds_agree(records::push(kinds, kind), wide(r[18], r[19]))
+    let next = wide_bytes(bits_of(records::push(kinds, kind)));
+    let valid = bit(records::is_valid(rec));
+    let mute = bit(records::is_muted(kinds));
+    let bytes = [valid, mute, next[0], next[1]];
+    bytes_agree(r, 16, &bytes)
 }
 
 // Kind 15: what a sender and a receiver start with.
 pub(crate) fn fresh_agrees(r: &[u8; 256]) -> bool {
-    ((r[1] == 1) == frame::fresh_sync()) & is_record(r, 2, records::fresh())
+    (r[1] == bit(frame::fresh_sync())) & record_agrees(r, 2, records::fresh())
 }

@@ -7,72 +7,49 @@ use crate::codebooks::is_same;
 use crate::codebooks::size_of;
 use crate::vector::count;
 use crate::vector::part;
-use crate::vector::wide;
+use crate::vector::refused;
+use crate::vector::wide_at;
 use codebook_text::TextAnswer;
 ghost use Prim.Native.Nat.{_≤_, _<_};
-ghost use lib.ListN.{length};
-
-// One byte to the end of a text; where it ends then.
-fn put(text: &mut [u8; 65536], at: usize, byte: u8) -> usize
-    requires { ⌜ at ≤ 65536 ⌝ }
-    ensures { λ r. ⌜ r ≤ 65536 ⌝ }
-{
-    if at < 65536 {
-        text[at] = byte;
-        return at + 1;
-    }
-    at
-}
-
-// Several bytes.
-fn put_all(text: &mut [u8; 65536], at: usize, bytes: &[u8]) -> usize
-    requires { ⌜ at ≤ 65536 ⌝ }
-    ensures { λ r. ⌜ r ≤ 65536 ⌝ }
-{
-    let mut end = at;
-    for i in 0..bytes.len() {
-        end = put(text, end, bytes[i]);
-    }
-    end
-}
 
 // The last digit of a number.
 fn digit(n: usize) -> u8 {
     b'0' + (n % 10) as u8
 }
 
-// The last four digits of a number.
-fn put_number(text: &mut [u8; 65536], at: usize, n: usize) -> usize
-    requires { ⌜ at ≤ 65536 ⌝ }
-    ensures { λ r. ⌜ r ≤ 65536 ⌝ }
-{
-    let digits = [digit(n / 1000), digit(n / 100), digit(n / 10), digit(n)];
-    put_all(text, at, &digits)
+// Byte j of the lines 0000, 0001, 0002 and so on, each with its end.
+fn plain_byte(j: usize) -> u8 {
+    let i = j / 5;
+    let k = j % 5;
+    match k {
+        0 => digit(i / 1000),
+        1 => digit(i / 100),
+        2 => digit(i / 10),
+        3 => digit(i),
+        _ => b'\n',
+    }
 }
 
-// Line i without its end: the bytes from 66 on where bytes 3 and 4 name this line, otherwise those from 8 on and four
-// digits of i.
-fn put_line(text: &mut [u8; 65536], at: usize, r: &[u8; 256], i: usize) -> usize
-    requires { ⌜ at ≤ 65536 ⌝ }
-    ensures { λ r. ⌜ r ≤ 65536 ⌝ }
+// Byte j of these lines after a change: from `at` on, `skipped` bytes go out and the given ones come in.
+fn changed_byte(j: usize, at: usize, skipped: usize, given: &[u8]) -> u8
+    requires { ⌜ (j < 65536) × (skipped < 256) ⌝ }
 {
-    if i == wide(r[3], r[4]) as usize {
-        return put_all(text, at, part(r, 66, count(r[5])));
+    if j < at {
+        return plain_byte(j);
     }
-    let end = put_all(text, at, part(r, 8, count(r[7])));
-    put_number(text, end, i)
+    if j - at < given.len() {
+        return given[j - at];
+    }
+    plain_byte(j - given.len() + skipped)
 }
 
-// All lines, as many as bytes 1 and 2 say, each with its end.
-fn put_lines(text: &mut [u8; 65536], r: &[u8; 256]) -> usize
-    ensures { λ r. ⌜ r ≤ 65536 ⌝ }
+// The text of so many bytes to the front of a buffer.
+fn write_text(text: &mut [u8; 65536], size: usize, at: usize, skipped: usize, given: &[u8])
+    requires { ⌜ (size ≤ 65536) × (skipped < 256) ⌝ }
 {
-    let mut end = 0;
-    for i in 0..wide(r[1], r[2]) as usize {
-        let line_end = put_line(text, end, r, i);
-        end = put(text, line_end, b'\n');
+    for j in 0..size {
+        text[j] = changed_byte(j, at, skipped, given);
     }
-    end
 }
 
 // Reads a text into a buffer: as the LSF codebook in kind 20, as the magnitudes in kind 21.
@@ -83,15 +60,15 @@ fn read(kind: u8, text: &[u8], buffer: &mut [i64]) -> TextAnswer {
     codebook_text::read_magnitudes(text, buffer)
 }
 
-// Whether the answer is the one in byte 64.
-fn answer_agrees(r: &[u8; 256], answer: TextAnswer) -> bool {
+// The refusal in an answer, 0 is none.
+fn refusal_of(answer: TextAnswer) -> u8 {
     match answer {
-        TextAnswer::Filled => r[64] == 0,
-        TextAnswer::Refused(n) => (n != 0) & (r[64] == n),
+        TextAnswer::Filled => 0,
+        TextAnswer::Refused(n) => refused(n),
     }
 }
 
-// Whether a text gives the answer, and the numbers that the rule of bytes 16 to 63 gives.
+// Whether a text gives the refusal in byte 72, and the numbers that the rule of bytes 16 to 71 gives.
 fn read_agrees(r: &[u8; 256], text: &[u8]) -> bool {
     let size = size_of(r);
     if 3201 < size {
@@ -100,21 +77,19 @@ fn read_agrees(r: &[u8; 256], text: &[u8]) -> bool {
     let mut buffer = [HELD; 3201];
     let answer = read(r[0], text, &mut buffer[..size]);
     let expected = codebook_of(r);
-    answer_agrees(r, answer) & is_same(front(&buffer, size), front(&expected, size))
+    (r[72] == refusal_of(answer)) & is_same(front(&buffer, size), front(&expected, size))
 }
 
-// The same of a text that has its last bytes taken away, as many as byte 6 says.
-fn cut_agrees(r: &[u8; 256], text: &[u8; 65536], end: usize) -> bool {
-    let missing = count(r[6]);
-    if end < missing {
-        return false;
-    }
-    read_agrees(r, part(text, 0, end - missing))
+// The same of the front of a buffer.
+fn front_agrees(r: &[u8; 256], text: &[u8; 65536], size: usize) -> bool {
+    read_agrees(r, part(text, 0, size))
 }
 
-// Kinds 20 and 21: reading a text.
+// Kinds 20 and 21: reading a text of as many bytes as bytes 1 and 2 say.
 pub(crate) fn text_agrees(r: &[u8; 256]) -> bool {
+    let size = wide_at(r, 1) as usize;
+    let at = wide_at(r, 3) as usize;
     let mut text = io::large_buffer();
-    let end = put_lines(&mut text, r);
-    cut_agrees(r, &text, end)
+    write_text(&mut text, size, at, count(r[5]), part(r, 74, count(r[6])));
+    front_agrees(r, &text, size)
 }

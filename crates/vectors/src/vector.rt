@@ -13,29 +13,48 @@ pub(crate) fn count(x: u8) -> usize
     x as usize
 }
 
+// A bit as a byte.
+pub(crate) fn bit(b: bool) -> u8 {
+    if b { 1 } else { 0 }
+}
+
+// The number of a refusal as a vector has it; 0 stands there for no refusal, so that it is none's.
+pub(crate) fn refused(n: u8) -> u8 {
+    if n == 0 { 255 } else { n }
+}
+
 // Two bytes as a number, the high one first.
-pub(crate) fn wide(high: u8, low: u8) -> u32
+fn wide(high: u8, low: u8) -> u32
     ensures { λ r. ⌜ r < 65536 ⌝ }
 {
     high as u32 * 256 + low as u32
 }
 
-// Four bytes as a number, the high one first.
-fn quad(a: u8, b: u8, c: u8, d: u8) -> u64
-    ensures { λ r. ⌜ r < 4294967296 ⌝ }
+// The two bytes from `at` as a number.
+pub(crate) fn wide_at(r: &[u8; 256], at: usize) -> u32
+    requires { ⌜ at ≤ 254 ⌝ }
+    ensures { λ r. ⌜ r < 65536 ⌝ }
 {
-    wide(a, b) as u64 * 65536 + wide(c, d) as u64
+    wide(r[at], r[at + 1])
 }
 
-// The four bytes from `at`.
-fn quad_at(r: &[u8; 256], at: usize) -> u64
+// The two bytes of a number, the high one first; both 255 where it has more.
+pub(crate) fn wide_bytes(x: u32) -> [u8; 2] {
+    if 65535 < x {
+        return [255, 255];
+    }
+    [(x / 256) as u8, (x % 256) as u8]
+}
+
+// The four bytes from `at` as a number.
+pub(crate) fn quad_at(r: &[u8; 256], at: usize) -> u64
     requires { ⌜ at ≤ 252 ⌝ }
     ensures { λ r. ⌜ r < 4294967296 ⌝ }
 {
-    quad(r[at], r[at + 1], r[at + 2], r[at + 3])
+    wide_at(r, at) as u64 * 65536 + wide_at(r, at + 2) as u64
 }
 
-// The eight bytes from `at` as a number, the high one first.
+// The eight bytes from `at` as a number.
 pub(crate) fn long_at(r: &[u8; 256], at: usize) -> u64
     requires { ⌜ at ≤ 248 ⌝ }
 {
@@ -48,6 +67,13 @@ pub(crate) fn signed(x: u64) -> i64 {
         return x as i64;
     }
     -1 - (18446744073709551615 - x) as i64
+}
+
+// The eight bytes from `at` as a signed number.
+pub(crate) fn number_at(r: &[u8; 256], at: usize) -> i64
+    requires { ⌜ at ≤ 248 ⌝ }
+{
+    signed(long_at(r, at))
 }
 
 // The part of some bytes that has this start and size; nothing where it does not fit.

@@ -15,17 +15,14 @@ abbrev μ-loop : tie.MeasureT-loop
 loop-holds : tie.Need-loop-holds Inv-loop μ-loop
 loop-holds c = search needs
 
-mul-long-at : tie.Need-mul-long-at Inv-loop μ-loop
-mul-long-at c = search needs
+mul-number-at : tie.Need-mul-number-at Inv-loop μ-loop
+mul-number-at c = search needs
 
-add-long-at : tie.Need-add-long-at Inv-loop μ-loop
-add-long-at c = search needs
+add-number-at : tie.Need-add-number-at Inv-loop μ-loop
+add-number-at c = search needs
 
-long-at-requires : tie.Need-long-at-requires Inv-loop μ-loop
-long-at-requires c κs = search needs
-
-signed-requires : tie.Need-signed-requires Inv-loop μ-loop
-signed-requires c κs = search needs
+number-at-requires : tie.Need-number-at-requires Inv-loop μ-loop
+number-at-requires c κs = search needs
 
 mul-numbers : tie.Need-mul-numbers Inv-loop μ-loop
 mul-numbers c = search needs
@@ -52,10 +49,9 @@ numbers-of-spec =
     Inv-loop
     μ-loop
     loop-holds
-    mul-long-at
-    add-long-at
-    long-at-requires
-    signed-requires
+    mul-number-at
+    add-number-at
+    number-at-requires
     mul-numbers
     array-set-from-numbers
     add-k

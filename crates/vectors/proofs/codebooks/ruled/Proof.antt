@@ -7,10 +7,10 @@ use Rattle.vectors.proofs.codebooks.ruled.Statement.{statement}
 use Rattle.vectors.proofs.codebooks.ruled.Tie as tie
 
 abbrev Inv-loop : tie.InvT-loop
-Inv-loop start step codebook₀ value₀ i₀ codebook value i = (i ≤ 3201) × (length codebook ≡ 3201)
+Inv-loop start step jump codebook₀ value₀ i₀ codebook value i = (i ≤ 3201) × (length codebook ≡ 3201)
 
 abbrev μ-loop : tie.MeasureT-loop
-μ-loop start step codebook₀ value₀ i₀ codebook value i = 3201 - i
+μ-loop start step jump codebook₀ value₀ i₀ codebook value i = 3201 - i
 
 loop-holds : tie.Need-loop-holds Inv-loop μ-loop
 loop-holds c = search needs
@@ -23,6 +23,9 @@ mul-codebook c = search needs
 
 array-set-from-codebook : tie.Need-array-set-from-codebook Inv-loop μ-loop
 array-set-from-codebook c = search needs
+
+added-requires : tie.Need-added-requires Inv-loop μ-loop
+added-requires c κs = search needs
 
 wrapping-add-u64-requires : tie.Need-wrapping-add-u64-requires Inv-loop μ-loop
 wrapping-add-u64-requires c κs = search needs
@@ -49,6 +52,7 @@ ruled-spec =
     signed-requires
     mul-codebook
     array-set-from-codebook
+    added-requires
     wrapping-add-u64-requires
     add-i
     loop-less

@@ -29,8 +29,11 @@ slice-aggregate-values c = sym (length-take-le _ _ (c .before .before .before .i
 values-requires : tie.Need-values-requires
 values-requires c κs = search needs
 
-answer-agrees-requires : tie.Need-answer-agrees-requires
-answer-agrees-requires c κs = search needs
+element-copy-out-result : tie.Need-element-copy-out-result
+element-copy-out-result c = search needs
+
+refusal-of-requires : tie.Need-refusal-of-requires
+refusal-of-requires c κs = search needs
 
 output-agrees-requires : tie.Need-output-agrees-requires
 output-agrees-requires c κs = search needs
@@ -50,6 +53,7 @@ values-agree-spec =
     array-borrow-prefix-out
     slice-aggregate-values
     values-requires
-    answer-agrees-requires
+    element-copy-out-result
+    refusal-of-requires
     output-agrees-requires
     returns-2)

@@ -29,11 +29,8 @@ slice-aggregate-pack c = sym (length-take-le _ _ (c .before .before .before .if1
 pack-requires : tie.Need-pack-requires
 pack-requires c κs = search needs
 
-answer-agrees-requires : tie.Need-answer-agrees-requires
-answer-agrees-requires c κs = search needs
-
-output-agrees-requires : tie.Need-output-agrees-requires
-output-agrees-requires c κs = search needs
+packed-agrees-requires : tie.Need-packed-agrees-requires
+packed-agrees-requires c κs = search needs
 
 returns-2 : tie.Need-returns-2
 returns-2 c = search needs
@@ -50,6 +47,5 @@ pack-agrees-spec =
     array-borrow-prefix-out
     slice-aggregate-pack
     pack-requires
-    answer-agrees-requires
-    output-agrees-requires
+    packed-agrees-requires
     returns-2)

@@ -26,8 +26,11 @@ read-requires c κs = search needs
 codebook-of-requires : tie.Need-codebook-of-requires
 codebook-of-requires c κs = search needs
 
-answer-agrees-requires : tie.Need-answer-agrees-requires
-answer-agrees-requires c κs = search needs
+element-copy-out-result : tie.Need-element-copy-out-result
+element-copy-out-result c = search needs
+
+refusal-of-requires : tie.Need-refusal-of-requires
+refusal-of-requires c κs = search needs
 
 front-requires : tie.Need-front-requires
 front-requires c κs = search needs
@@ -52,7 +55,8 @@ read-agrees-spec =
     slice-aggregate-read
     read-requires
     codebook-of-requires
-    answer-agrees-requires
+    element-copy-out-result
+    refusal-of-requires
     front-requires
     front-requires-2
     is-same-requires
