@@ -161,7 +161,7 @@ fn call_agrees(r: &[u8; 256], codebook: &[i64]) -> bool {
 }
 
 // Kinds 16 to 19, with the codebook that the vector gives.
-pub(crate) fn codebook_agrees(r: &[u8; 256]) -> bool {
+pub(crate) fn agrees(r: &[u8; 256]) -> bool {
     let size = size_of(r);
     if 3201 < size {
         return false;

@@ -22,23 +22,12 @@ ghost use Prim.Native.Nat.{_≤_};
 fn agrees(r: &[u8; 256]) -> bool {
     let kind = r[0];
     match kind {
-        1 => coder::pack_agrees(r),
-        2 => coder::class_agrees(r),
-        3 => coder::code_agrees(r),
-        4 => coder::word_agrees(r),
-        5 => coder::parity_agrees(r),
-        6 => levels::first_agrees(r),
-        7 => levels::second_agrees(r),
-        8 => levels::choice_agrees(r),
-        9 => taking::receive_agrees(r),
-        10 => frames::frame_agrees(r),
-        11 => frames::logical_agrees(r),
-        12 => frames::ranges_agree(r),
-        13 => frames::reading_agrees(r),
-        14 => taking::kinds_agree(r),
-        15 => taking::fresh_agrees(r),
-        16..=19 => codebooks::codebook_agrees(r),
-        20 | 21 => texts::text_agrees(r),
+        1..=5 => coder::agrees(r),
+        6..=8 => levels::agrees(r),
+        9 | 14 | 15 => taking::agrees(r),
+        10..=13 => frames::agrees(r),
+        16..=19 => codebooks::agrees(r),
+        20 | 21 => texts::agrees(r),
         _ => false,
     }
 }
@@ -82,14 +71,17 @@ fn run() -> Tally {
     }
 }
 
+// A name and a number.
+fn print(name: &[u8], n: u64) {
+    io::write_all(1, name);
+    io::print_decimal(1, n);
+}
+
 // Prints the tally.
 fn main() {
     let tally = run();
-    io::write_all(1, b"vectors=");
-    io::print_decimal(1, tally.vectors);
-    io::write_all(1, b" differences=");
-    io::print_decimal(1, tally.differences);
-    io::write_all(1, b" left=");
-    io::print_decimal(1, tally.left);
+    print(b"vectors=", tally.vectors);
+    print(b" differences=", tally.differences);
+    print(b" left=", tally.left);
     io::write_all(1, b"\n");
 }

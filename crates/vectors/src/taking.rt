@@ -7,16 +7,13 @@ use crate::vector::refused;
 use crate::vector::set_agrees;
 use crate::vector::set_of;
 use crate::vector::wide_at;
-use crate::vector::wide_bytes;
 use receiver::FrameResult;
 use receiver::Kind;
 use receiver::ReceiveAnswer;
 use receiver::Received;
 use records::FrameKind;
 use records::Record;
-ghost use mathlib.Core.Path.{_≡_};
-ghost use Prim.Native.Nat.{_≤_, _<_};
-ghost use lib.ListN.{length};
+ghost use Prim.Native.Nat.{_≤_};
 
 // The sixteen kinds by their bits, 1 for a repeat, the oldest most significant.
 fn kinds_of(bits: u32) -> [FrameKind; 16] {
@@ -50,22 +47,15 @@ fn record_of(r: &[u8; 256]) -> Record {
     }
 }
 
-// What a record has besides its last set: the last G2, and the kinds.
-fn history_bytes(rec: Record) -> [u8; 3]
-    ensures { λ r. ⌜ length r ≡ 3 ⌝ }
-{
-    let kinds = rec.kinds;
-    let bytes = wide_bytes(bits_of(kinds));
-    [rec.g2, bytes[0], bytes[1]]
-}
-
 // Whether the record is the one in the fourteen bytes from `start`.
 fn record_agrees(r: &[u8; 256], start: usize, rec: Record) -> bool
     requires { ⌜ start ≤ 242 ⌝ }
 {
     let last = rec.last;
-    let history = history_bytes(rec);
-    set_agrees(r, start, last) & bytes_agree(r, start + 11, &history)
+    let kinds = rec.kinds;
+    set_agrees(r, start, last)
+        & (r[start + 11] == rec.g2)
+        & (wide_at(r, start + 12) == bits_of(kinds))
 }
 
 // The number of a result's kind.
@@ -77,31 +67,25 @@ fn number_of(kind: Kind) -> u8 {
     }
 }
 
-// What a result has besides its kind and its set: both levels, mute, the sync bit and the repaired count.
-fn marks_bytes(result: FrameResult) -> [u8; 7]
-    ensures { λ r. ⌜ length r ≡ 7 ⌝ }
-{
-    let first = wide_bytes(result.first);
-    let second = wide_bytes(result.second);
-    let mute = bit(result.mute);
-    let sync = bit(result.sync);
-    [
-        first[0],
-        first[1],
-        second[0],
-        second[1],
-        mute,
-        sync,
-        result.repaired,
-    ]
+// Whether both levels are those in bytes 38 to 41.
+fn levels_agree(r: &[u8; 256], first: u32, second: u32) -> bool {
+    (wide_at(r, 38) == first) & (wide_at(r, 40) == second)
+}
+
+// Whether mute, the sync bit and the repaired count are those in bytes 42 to 44.
+fn marks_agree(r: &[u8; 256], mute: bool, sync: bool, repaired: u8) -> bool {
+    let bytes = [bit(mute), bit(sync), repaired];
+    bytes_agree(r, 42, &bytes)
 }
 
 // Whether the result is the one in bytes 26 to 44.
 fn result_agrees(r: &[u8; 256], result: FrameResult) -> bool {
     let kind = result.kind;
     let set = result.set;
-    let marks = marks_bytes(result);
-    (r[26] == number_of(kind)) & set_agrees(r, 27, set) & bytes_agree(r, 38, &marks)
+    (r[26] == number_of(kind))
+        & set_agrees(r, 27, set)
+        & levels_agree(r, result.first, result.second)
+        & marks_agree(r, result.mute, result.sync, result.repaired)
 }
 
 // Whether the answer is the one in bytes 25 to 44; of a refusal there is only its number.
@@ -120,7 +104,7 @@ fn received_agrees(r: &[u8; 256], received: Received) -> bool {
 }
 
 // Kind 9: receiving.
-pub(crate) fn receive_agrees(r: &[u8; 256]) -> bool {
+fn receive_agrees(r: &[u8; 256]) -> bool {
     let size = count(r[15]);
     if 9 < size {
         return false;
@@ -128,19 +112,31 @@ pub(crate) fn receive_agrees(r: &[u8; 256]) -> bool {
     received_agrees(r, receiver::receive(record_of(r), part(r, 16, size)))
 }
 
+// Whether the kinds after one more are those in bytes 18 and 19.
+fn pushed_agrees(r: &[u8; 256], kinds: [FrameKind; 16]) -> bool {
+    let kind = FrameKind { repeat: r[15] == 1 };
+    wide_at(r, 18) == bits_of(records::push(kinds, kind))
+}
+
 // Kind 14: whether a record is valid, whether its kinds mute, and the kinds after one more.
-pub(crate) fn kinds_agree(r: &[u8; 256]) -> bool {
+fn history_agrees(r: &[u8; 256]) -> bool {
     let rec = record_of(r);
     let kinds = rec.kinds;
-    let kind = FrameKind { repeat: r[15] == 1 };
-    let next = wide_bytes(bits_of(records::push(kinds, kind)));
-    let valid = bit(records::is_valid(rec));
-    let mute = bit(records::is_muted(kinds));
-    let bytes = [valid, mute, next[0], next[1]];
-    bytes_agree(r, 16, &bytes)
+    let bytes = [bit(records::is_valid(rec)), bit(records::is_muted(kinds))];
+    bytes_agree(r, 16, &bytes) & pushed_agrees(r, kinds)
 }
 
 // Kind 15: what a sender and a receiver start with.
-pub(crate) fn fresh_agrees(r: &[u8; 256]) -> bool {
+fn fresh_agrees(r: &[u8; 256]) -> bool {
     (r[1] == bit(frame::fresh_sync())) & record_agrees(r, 2, records::fresh())
+}
+
+// Kinds 9, 14 and 15.
+pub(crate) fn agrees(r: &[u8; 256]) -> bool {
+    let kind = r[0];
+    match kind {
+        9 => receive_agrees(r),
+        14 => history_agrees(r),
+        _ => fresh_agrees(r),
+    }
 }

@@ -38,14 +38,6 @@ pub(crate) fn wide_at(r: &[u8; 256], at: usize) -> u32
     wide(r[at], r[at + 1])
 }
 
-// The two bytes of a number, the high one first; both 255 where it has more.
-pub(crate) fn wide_bytes(x: u32) -> [u8; 2] {
-    if 65535 < x {
-        return [255, 255];
-    }
-    [(x / 256) as u8, (x % 256) as u8]
-}
-
 // The four bytes from `at` as a number.
 pub(crate) fn quad_at(r: &[u8; 256], at: usize) -> u64
     requires { ⌜ at ≤ 252 ⌝ }
@@ -97,26 +89,34 @@ pub(crate) fn bytes_agree(r: &[u8; 256], start: usize, bytes: &[u8]) -> bool
     same
 }
 
-// The set in bytes 1 to 11.
-pub(crate) fn set_of(r: &[u8; 256]) -> ParameterSet {
-    let x = Indices {
+// The indices in bytes 3 to 8.
+fn indices_of(r: &[u8; 256]) -> Indices {
+    Indices {
         l1: r[3],
         l2: r[4],
         l3: r[5],
         l4: r[6],
         g2: r[7],
         g1: r[8],
-    };
-    if r[1] == 0 {
-        return ParameterSet::Unvoiced(x);
     }
-    let v = Voicing {
+}
+
+// What a voiced set has besides, in bytes 2 and 9 to 11.
+fn voicing_of(r: &[u8; 256]) -> Voicing {
+    Voicing {
         pitch: r[2],
         bandpass: r[9],
         fourier: r[10],
         aperiodic: r[11],
-    };
-    ParameterSet::Voiced(x, v)
+    }
+}
+
+// The set in bytes 1 to 11.
+pub(crate) fn set_of(r: &[u8; 256]) -> ParameterSet {
+    if r[1] == 0 {
+        return ParameterSet::Unvoiced(indices_of(r));
+    }
+    ParameterSet::Voiced(indices_of(r), voicing_of(r))
 }
 
 // A set as a vector has it.
