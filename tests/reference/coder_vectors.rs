@@ -67,11 +67,16 @@ pub fn class(random: &mut Random) -> Vector {
     let code = random.around(127);
     let mut vector = vector_of(2);
     vector[1] = code;
-    put_answer(&mut vector, 2, melp::pitch_class(code), |class| match class {
-        PitchClass::Unvoiced => vec![0],
-        PitchClass::Erased => vec![1],
-        PitchClass::Voiced(index) => vec![2, *index],
-    });
+    put_answer(
+        &mut vector,
+        2,
+        melp::pitch_class(code),
+        |class| match class {
+            PitchClass::Unvoiced => vec![0],
+            PitchClass::Erased => vec![1],
+            PitchClass::Voiced(index) => vec![2, *index],
+        },
+    );
     vector
 }
 

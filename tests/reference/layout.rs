@@ -58,14 +58,20 @@ pub fn set_bytes(set: &Set) -> [u8; 11] {
 
 /// Sixteen kinds in two bytes: a bit for each, 1 for a repeat, the oldest most significant.
 pub fn kinds_bytes(repeats: &[bool; 16]) -> [u8; 2] {
-    let bits = repeats.iter().fold(0u16, |bits, r| 2 * bits + u16::from(*r));
+    let bits = repeats
+        .iter()
+        .fold(0u16, |bits, r| 2 * bits + u16::from(*r));
     bits.to_be_bytes()
 }
 
 /// A record in fourteen bytes: last set, last G2, and the kinds.
 pub fn record_bytes(record: &Record) -> Vec<u8> {
     let [high, low] = kinds_bytes(&record.repeats);
-    [&set_bytes(&record.last_set)[..], &[record.last_g2, high, low]].concat()
+    [
+        &set_bytes(&record.last_set)[..],
+        &[record.last_g2, high, low],
+    ]
+    .concat()
 }
 
 /// 54 bits by logical number as a number, bit 0 the most significant.
