@@ -32,18 +32,14 @@ fn ruled(start: u64, step: u64, jump: u64) -> [i64; 3201] {
     codebook
 }
 
-// Another number at a place; past the last one nothing changes.
-fn replace(codebook: &mut [i64; 3201], place: usize, value: i64) {
-    if place < 3201 {
-        codebook[place] = value;
-    }
-}
-
-// The replacement in the ten bytes from `at`: the place, and the number.
+// The replacement in the ten bytes from `at`: another number at a place; past the last one nothing changes.
 fn replace_by(codebook: &mut [i64; 3201], r: &[u8; 256], at: usize)
     requires { ⌜ at ≤ 246 ⌝ }
 {
-    replace(codebook, wide_at(r, at) as usize, number_at(r, at + 2));
+    let place = wide_at(r, at) as usize;
+    if place < 3201 {
+        codebook[place] = number_at(r, at + 2);
+    }
 }
 
 // The numbers that bytes 18 to 71 give: the rule, and three replacements.
@@ -161,7 +157,7 @@ fn call_agrees(r: &[u8; 256], codebook: &[i64]) -> bool {
 }
 
 // Kinds 16 to 19, with the codebook that the vector gives.
-pub(crate) fn agrees(r: &[u8; 256]) -> bool {
+pub(crate) fn codebook_agrees(r: &[u8; 256]) -> bool {
     let size = size_of(r);
     if 3201 < size {
         return false;

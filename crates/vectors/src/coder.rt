@@ -33,7 +33,7 @@ fn packed_agrees(r: &[u8; 256], answer: PackAnswer, out: &[u8; 16]) -> bool {
 }
 
 // Kind 1: packing.
-fn pack_agrees(r: &[u8; 256]) -> bool {
+pub(crate) fn pack_agrees(r: &[u8; 256]) -> bool {
     let room = count(r[13]);
     if 16 < room {
         return false;
@@ -58,7 +58,7 @@ fn class_bytes(answer: ClassAnswer) -> [u8; 3]
 }
 
 // Kind 2: the class of a pitch code.
-fn class_agrees(r: &[u8; 256]) -> bool {
+pub(crate) fn class_agrees(r: &[u8; 256]) -> bool {
     let bytes = class_bytes(pitch::classify(r[1]));
     bytes_agree(r, 2, &bytes)
 }
@@ -74,7 +74,7 @@ fn code_bytes(answer: CodeAnswer) -> [u8; 2]
 }
 
 // Kind 3: the code of a pitch index.
-fn code_agrees(r: &[u8; 256]) -> bool {
+pub(crate) fn code_agrees(r: &[u8; 256]) -> bool {
     let bytes = code_bytes(pitch::encode(r[1]));
     bytes_agree(r, 2, &bytes)
 }
@@ -99,24 +99,12 @@ fn word_bytes(answer: Decoded) -> [u8; 3]
 }
 
 // Kind 4: what a word is read as.
-fn word_agrees(r: &[u8; 256]) -> bool {
+pub(crate) fn word_agrees(r: &[u8; 256]) -> bool {
     let bytes = word_bytes(hamming::decode(length_of(r[1]), r[2]));
     bytes_agree(r, 3, &bytes)
 }
 
 // Kind 5: the parity of data.
-fn parity_agrees(r: &[u8; 256]) -> bool {
+pub(crate) fn parity_agrees(r: &[u8; 256]) -> bool {
     hamming::parity_of(length_of(r[1]), r[2]) == r[3]
-}
-
-// Kinds 1 to 5.
-pub(crate) fn agrees(r: &[u8; 256]) -> bool {
-    let kind = r[0];
-    match kind {
-        1 => pack_agrees(r),
-        2 => class_agrees(r),
-        3 => code_agrees(r),
-        4 => word_agrees(r),
-        _ => parity_agrees(r),
-    }
 }

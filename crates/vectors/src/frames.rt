@@ -9,10 +9,9 @@ use crate::vector::set_agrees;
 use crate::vector::set_of;
 use order::BitsAnswer;
 use reading::Reading;
-use sets::ParameterSet;
 
 // Kind 10: the frame of 54 bits.
-fn frame_agrees(r: &[u8; 256]) -> bool {
+pub(crate) fn frame_agrees(r: &[u8; 256]) -> bool {
     let frame = order::place_bits(long_at(r, 1));
     bytes_agree(r, 9, &frame)
 }
@@ -26,7 +25,7 @@ fn bits_agree(answer: BitsAnswer, refusal: u8, bits: u64) -> bool {
 }
 
 // Kind 11: the 54 bits of a frame.
-fn logical_agrees(r: &[u8; 256]) -> bool {
+pub(crate) fn logical_agrees(r: &[u8; 256]) -> bool {
     let size = count(r[1]);
     if 9 < size {
         return false;
@@ -35,7 +34,7 @@ fn logical_agrees(r: &[u8; 256]) -> bool {
 }
 
 // Kind 12: the ranges and the indices of a set.
-fn ranges_agree(r: &[u8; 256]) -> bool {
+pub(crate) fn ranges_agree(r: &[u8; 256]) -> bool {
     let set = set_of(r);
     let x = sets::indices_of(set);
     let bytes = [
@@ -51,27 +50,13 @@ fn ranges_agree(r: &[u8; 256]) -> bool {
     bytes_agree(r, 12, &bytes)
 }
 
-// Whether the set and the repaired count are those in bytes 10 to 21.
-fn accepted_agrees(r: &[u8; 256], set: ParameterSet, repaired: u8) -> bool {
-    set_agrees(r, 10, set) & (r[21] == repaired)
-}
-
 // Kind 13: what 54 bits are read as; of an erasure nothing else is told.
-fn reading_agrees(r: &[u8; 256]) -> bool {
+pub(crate) fn reading_agrees(r: &[u8; 256]) -> bool {
     let erased = r[9] == 1;
     match reading::read(long_at(r, 1)) {
         Reading::Erased => erased,
-        Reading::Accepted(set, repaired) => !erased & accepted_agrees(r, set, repaired),
-    }
-}
-
-// Kinds 10 to 13.
-pub(crate) fn agrees(r: &[u8; 256]) -> bool {
-    let kind = r[0];
-    match kind {
-        10 => frame_agrees(r),
-        11 => logical_agrees(r),
-        12 => ranges_agree(r),
-        _ => reading_agrees(r),
+        Reading::Accepted(set, repaired) => {
+            !erased & set_agrees(r, 10, set) & (r[21] == repaired)
+        }
     }
 }

@@ -18,12 +18,12 @@ fn level_agrees(answer: LevelAnswer, refusal: u8, level: u32) -> bool {
 }
 
 // Kind 6: a first level.
-fn first_agrees(r: &[u8; 256]) -> bool {
+pub(crate) fn first_agrees(r: &[u8; 256]) -> bool {
     level_agrees(gain::first_level(r[1], r[2], r[3]), r[4], wide_at(r, 5))
 }
 
 // Kind 7: a second level.
-fn second_agrees(r: &[u8; 256]) -> bool {
+pub(crate) fn second_agrees(r: &[u8; 256]) -> bool {
     level_agrees(gain::level(r[1]), r[2], wide_at(r, 3))
 }
 
@@ -48,19 +48,9 @@ fn choice_bytes(answer: CodesAnswer) -> [u8; 3]
 }
 
 // Kind 8: gain codes chosen.
-fn choice_agrees(r: &[u8; 256]) -> bool {
+pub(crate) fn choice_agrees(r: &[u8; 256]) -> bool {
     let first = signed(quad_at(r, 1));
     let second = signed(quad_at(r, 5));
     let bytes = choice_bytes(quantiser::choose(first, second, r[9]));
     bytes_agree(r, 10, &bytes)
-}
-
-// Kinds 6 to 8.
-pub(crate) fn agrees(r: &[u8; 256]) -> bool {
-    let kind = r[0];
-    match kind {
-        6 => first_agrees(r),
-        7 => second_agrees(r),
-        _ => choice_agrees(r),
-    }
 }

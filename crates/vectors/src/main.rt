@@ -22,12 +22,23 @@ ghost use Prim.Native.Nat.{_≤_};
 fn agrees(r: &[u8; 256]) -> bool {
     let kind = r[0];
     match kind {
-        1..=5 => coder::agrees(r),
-        6..=8 => levels::agrees(r),
-        9 | 14 | 15 => taking::agrees(r),
-        10..=13 => frames::agrees(r),
-        16..=19 => codebooks::agrees(r),
-        20 | 21 => texts::agrees(r),
+        1 => coder::pack_agrees(r),
+        2 => coder::class_agrees(r),
+        3 => coder::code_agrees(r),
+        4 => coder::word_agrees(r),
+        5 => coder::parity_agrees(r),
+        6 => levels::first_agrees(r),
+        7 => levels::second_agrees(r),
+        8 => levels::choice_agrees(r),
+        9 => taking::receive_agrees(r),
+        10 => frames::frame_agrees(r),
+        11 => frames::logical_agrees(r),
+        12 => frames::ranges_agree(r),
+        13 => frames::reading_agrees(r),
+        14 => taking::history_agrees(r),
+        15 => taking::fresh_agrees(r),
+        16 | 17 | 18 | 19 => codebooks::codebook_agrees(r),
+        20 | 21 => texts::text_agrees(r),
         _ => false,
     }
 }

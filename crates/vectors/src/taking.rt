@@ -104,7 +104,7 @@ fn received_agrees(r: &[u8; 256], received: Received) -> bool {
 }
 
 // Kind 9: receiving.
-fn receive_agrees(r: &[u8; 256]) -> bool {
+pub(crate) fn receive_agrees(r: &[u8; 256]) -> bool {
     let size = count(r[15]);
     if 9 < size {
         return false;
@@ -119,7 +119,7 @@ fn pushed_agrees(r: &[u8; 256], kinds: [FrameKind; 16]) -> bool {
 }
 
 // Kind 14: whether a record is valid, whether its kinds mute, and the kinds after one more.
-fn history_agrees(r: &[u8; 256]) -> bool {
+pub(crate) fn history_agrees(r: &[u8; 256]) -> bool {
     let rec = record_of(r);
     let kinds = rec.kinds;
     let bytes = [bit(records::is_valid(rec)), bit(records::is_muted(kinds))];
@@ -127,16 +127,6 @@ fn history_agrees(r: &[u8; 256]) -> bool {
 }
 
 // Kind 15: what a sender and a receiver start with.
-fn fresh_agrees(r: &[u8; 256]) -> bool {
+pub(crate) fn fresh_agrees(r: &[u8; 256]) -> bool {
     (r[1] == bit(frame::fresh_sync())) & record_agrees(r, 2, records::fresh())
-}
-
-// Kinds 9, 14 and 15.
-pub(crate) fn agrees(r: &[u8; 256]) -> bool {
-    let kind = r[0];
-    match kind {
-        9 => receive_agrees(r),
-        14 => history_agrees(r),
-        _ => fresh_agrees(r),
-    }
 }

@@ -86,7 +86,7 @@ fn front_agrees(r: &[u8; 256], text: &[u8; 65536], size: usize) -> bool {
 }
 
 // Kinds 20 and 21: reading a text of as many bytes as bytes 1 and 2 say.
-pub(crate) fn agrees(r: &[u8; 256]) -> bool {
+pub(crate) fn text_agrees(r: &[u8; 256]) -> bool {
     let size = wide_at(r, 1) as usize;
     let at = wide_at(r, 3) as usize;
     let mut text = io::large_buffer();
