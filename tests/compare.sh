@@ -50,6 +50,12 @@ says() {
   [ "$said" = "$2" ]
 }
 
+# The vectors of the gate must be those that the independent implementation makes.
+find_stored() {
+  "$work/vectors" gate 2>/dev/null | cmp -s - "$top/crates/vectors/stdin" ||
+    fail "vectors: crates/vectors/stdin is not what the independent vectors makes for the gate"
+}
+
 # The proved program must find every one of a thousand wrong expectations.
 find_spoilt() {
   "$work/vectors" 1000 "$1" spoilt >"$work/lot"
@@ -60,7 +66,7 @@ find_spoilt() {
 wrong_vector() {
   local number
   for ((number = 0; number < lot; number++)); do
-    dd if="$work/lot" of="$work/one" bs=64 skip="$number" count=1 status=none
+    dd if="$work/lot" of="$work/one" bs=256 skip="$number" count=1 status=none
     says one "vectors=1 differences=0 left=0" || break
   done
   echo "vector $number:" && od -An -tx1 -v "$work/one"
@@ -69,6 +75,7 @@ wrong_vector() {
 compare_vectors() {
   local count=0 seed=$2 lot said
   prepare vectors
+  find_stored
   find_spoilt "$seed"
   while ((count < $1)); do
     lot=$(($1 - count < 1000 ? $1 - count : 1000))

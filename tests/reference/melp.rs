@@ -12,6 +12,8 @@ pub enum Refusal {
     Padding = 3,
     Record = 4,
     Parameter = 5,
+    Codebook = 6,
+    Row = 7,
 }
 
 impl Refusal {
@@ -296,7 +298,7 @@ pub fn choose(first: i32, second: i32, q: u8) -> Result<(u8, u8), Refusal> {
 // ---- Range tests (sections "Parameter sets" and "Receiver") ----
 
 /// Whether each field of a set is in its range, B = 1 let through.
-fn set_in_range(set: &Set) -> bool {
+pub fn set_in_range(set: &Set) -> bool {
     let [l1, l2, l3, l4] = set.lsf;
     let common = l1 <= 127 && l2 <= 63 && l3 <= 63 && l4 <= 63 && set.g2 <= 31 && set.g1 <= 7;
     let own = match set.voicing {
@@ -425,6 +427,11 @@ fn from_bytes(bytes: &[u8; 7]) -> [u8; 54] {
     places
 }
 
+/// The frame of 54 bits by logical number.
+pub fn frame_of_bits(logical: &[u8; 54]) -> [u8; 7] {
+    to_bytes(&to_places(logical))
+}
+
 /// Change one place of a frame, as the channel may.
 pub fn flip(frame: &mut [u8; 7], place: usize) {
     frame[place / 8] ^= 1 << (7 - place % 8);
@@ -432,9 +439,11 @@ pub fn flip(frame: &mut [u8; 7], place: usize) {
 
 /// The frame of any set in range, B = 1 let through.
 pub fn frame_of(set: &Set, sync: u8) -> Result<[u8; 7], Refusal> {
-    let logical = logical_bits(set, sync)?;
-    Ok(to_bytes(&to_places(&logical)))
+    Ok(frame_of_bits(&logical_bits(set, sync)?))
 }
+
+/// The sync bit of a fresh sender.
+pub const FRESH_SYNC: u8 = 0;
 
 /// Pack a set with the sender's sync bit: the frame and the next sync bit.
 pub fn pack(set: &Set, sync: u8, output_length: usize) -> Result<([u8; 7], u8), Refusal> {
@@ -526,8 +535,8 @@ fn read_unvoiced(logical: &[u8; 54]) -> Content {
     }
 }
 
-/// Read a frame's bytes: refuse 2 or 3, else classify the pitch code and read on.
-pub fn read(bytes: &[u8]) -> Result<FrameReading, Refusal> {
+/// The 54 bits of a frame by logical number: refuse 2 or 3.
+pub fn bits_of_frame(bytes: &[u8]) -> Result<[u8; 54], Refusal> {
     if bytes.len() != 7 {
         return Err(Refusal::FrameLength);
     }
@@ -536,14 +545,23 @@ pub fn read(bytes: &[u8]) -> Result<FrameReading, Refusal> {
     if frame[6] & 0b11 != 0 {
         return Err(Refusal::Padding);
     }
-    let logical = from_places(&from_bytes(&frame));
-    let content = match pitch_class(number_of(&logical[28..35]))? {
-        PitchClass::Erased => Content::Erased,
-        PitchClass::Voiced(pitch) => read_voiced(&logical, pitch),
-        PitchClass::Unvoiced => read_unvoiced(&logical),
-    };
+    Ok(from_places(&from_bytes(&frame)))
+}
+
+/// Read 54 bits: classify the pitch code and read on.
+pub fn read_bits(logical: &[u8; 54]) -> Result<Content, Refusal> {
+    match pitch_class(number_of(&logical[28..35]))? {
+        PitchClass::Erased => Ok(Content::Erased),
+        PitchClass::Voiced(pitch) => Ok(read_voiced(logical, pitch)),
+        PitchClass::Unvoiced => Ok(read_unvoiced(logical)),
+    }
+}
+
+/// Read a frame's bytes.
+pub fn read(bytes: &[u8]) -> Result<FrameReading, Refusal> {
+    let logical = bits_of_frame(bytes)?;
     Ok(FrameReading {
-        content,
+        content: read_bits(&logical)?,
         sync: logical[53],
     })
 }
@@ -566,14 +584,14 @@ pub fn fresh_record() -> Record {
 }
 
 /// The latest 16 kinds after one more: the oldest goes out.
-fn push_kind(repeats: &[bool; 16], repeat: bool) -> [bool; 16] {
+pub fn push_kind(repeats: &[bool; 16], repeat: bool) -> [bool; 16] {
     let mut next = [repeat; 16];
     next[..15].copy_from_slice(&repeats[1..]);
     next
 }
 
 /// Mute bit of the latest 16 kinds.
-fn mute_of(repeats: &[bool; 16]) -> u8 {
+pub fn mute_of(repeats: &[bool; 16]) -> u8 {
     u8::from(repeats.iter().filter(|r| **r).count() >= 8)
 }
 

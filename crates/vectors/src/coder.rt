@@ -1,4 +1,8 @@
-// Vectors of packing, the pitch code and the words.
+// Vectors of packing, the pitch code and the words. An answer is made the bytes that a vector has for it.
+use crate::vector::bit;
+use crate::vector::bytes_agree;
+use crate::vector::count;
+use crate::vector::refused;
 use crate::vector::set_of;
 use frame::PackAnswer;
 use hamming::Decoded;
@@ -6,83 +10,101 @@ use hamming::WordLength;
 use pitch::ClassAnswer;
 use pitch::CodeAnswer;
 use pitch::PitchClass;
+ghost use mathlib.Core.Path.{_≡_};
+ghost use lib.ListN.{length};
 
-// What the output holds before a call.
-const FILL: u8 = 165;
+// What each byte of the output holds before a call.
+const HELD: u8 = 165;
 
-// Whether the answer is the one of bytes 14 and 15.
-fn answer_agrees(r: [u8; 64], answer: PackAnswer) -> bool {
+// The refusal, and the next sync bit.
+fn pack_bytes(answer: PackAnswer) -> [u8; 2]
+    ensures { λ r. ⌜ length r ≡ 2 ⌝ }
+{
     match answer {
-        PackAnswer::Packed(next) => (r[14] == 0) & ((r[15] == 1) == next),
-        PackAnswer::Refused(n) => (n != 0) & (r[14] == n),
+        PackAnswer::Packed(next) => [0, bit(next)],
+        PackAnswer::Refused(n) => [refused(n), 0],
     }
 }
 
-// Whether the output is the frame of bytes 16 to 22 with the rest as it was, or all as it was.
-fn output_agrees(r: [u8; 64], out: [u8; 16]) -> bool {
-    let mut same = true;
-    for i in 0..16 {
-        let expected = if (r[14] == 0) & (i < 7) {
-            r[16 + i]
-        } else {
-            FILL
-        };
-        same = same & (out[i] == expected);
-    }
-    same
+// Whether the answer is the one in bytes 14 and 15, and the output afterwards the one in bytes 16 to 31.
+fn packed_agrees(r: &[u8; 256], answer: PackAnswer, out: &[u8; 16]) -> bool {
+    let bytes = pack_bytes(answer);
+    bytes_agree(r, 14, &bytes) & bytes_agree(r, 16, out)
 }
 
 // Kind 1: packing.
-pub(crate) fn pack_agrees(r: [u8; 64]) -> bool {
-    let room = r[13] as usize;
+pub(crate) fn pack_agrees(r: &[u8; 256]) -> bool {
+    let room = count(r[13]);
     if 16 < room {
         return false;
     }
-    let mut out = [FILL; 16];
+    let mut out = [HELD; 16];
     let answer = frame::pack(set_of(r), r[12] == 1, &mut out[..room]);
-    answer_agrees(r, answer) & output_agrees(r, out)
+    packed_agrees(r, answer, &out)
 }
 
-// Kind 2: the class of a pitch code.
-pub(crate) fn class_agrees(r: [u8; 64]) -> bool {
-    match pitch::classify(r[1]) {
-        ClassAnswer::Refused(n) => (n != 0) & (r[2] == n),
+// The refusal, the number of the class, and the index.
+fn class_bytes(answer: ClassAnswer) -> [u8; 3]
+    ensures { λ r. ⌜ length r ≡ 3 ⌝ }
+{
+    match answer {
+        ClassAnswer::Refused(n) => [refused(n), 0, 0],
         ClassAnswer::Class(class) => match class {
-            PitchClass::Unvoiced => (r[2] == 0) & (r[3] == 0),
-            PitchClass::Erased => (r[2] == 0) & (r[3] == 1),
-            PitchClass::Voiced(i) => (r[2] == 0) & (r[3] == 2) & (r[4] == i),
+            PitchClass::Unvoiced => [0, 0, 0],
+            PitchClass::Erased => [0, 1, 0],
+            PitchClass::Voiced(i) => [0, 2, i],
         },
     }
 }
 
-// Kind 3: the code of a pitch index.
-pub(crate) fn code_agrees(r: [u8; 64]) -> bool {
-    match pitch::encode(r[1]) {
-        CodeAnswer::Refused(n) => (n != 0) & (r[2] == n),
-        CodeAnswer::Code(code) => (r[2] == 0) & (r[3] == code),
+// Kind 2: the class of a pitch code.
+pub(crate) fn class_agrees(r: &[u8; 256]) -> bool {
+    let bytes = class_bytes(pitch::classify(r[1]));
+    bytes_agree(r, 2, &bytes)
+}
+
+// The refusal, and the code.
+fn code_bytes(answer: CodeAnswer) -> [u8; 2]
+    ensures { λ r. ⌜ length r ≡ 2 ⌝ }
+{
+    match answer {
+        CodeAnswer::Refused(n) => [refused(n), 0],
+        CodeAnswer::Code(code) => [0, code],
     }
 }
 
-// The length in byte 1; anything else than 6 or 7 is 8.
-fn length_of(r: [u8; 64]) -> WordLength {
-    if r[1] == 6 {
-        return WordLength::Six;
+// Kind 3: the code of a pitch index.
+pub(crate) fn code_agrees(r: &[u8; 256]) -> bool {
+    let bytes = code_bytes(pitch::encode(r[1]));
+    bytes_agree(r, 2, &bytes)
+}
+
+// The length of a word; anything else than 6 or 7 is 8.
+fn length_of(n: u8) -> WordLength {
+    match n {
+        6 => WordLength::Six,
+        7 => WordLength::Seven,
+        _ => WordLength::Eight,
     }
-    if r[1] == 7 {
-        return WordLength::Seven;
+}
+
+// Whether the word is erased, its data, and the repaired count.
+fn word_bytes(answer: Decoded) -> [u8; 3]
+    ensures { λ r. ⌜ length r ≡ 3 ⌝ }
+{
+    match answer {
+        Decoded::Erased => [1, 0, 0],
+        Decoded::Read(data, repaired) => [0, data, repaired],
     }
-    WordLength::Eight
 }
 
 // Kind 4: what a word is read as.
-pub(crate) fn word_agrees(r: [u8; 64]) -> bool {
-    match hamming::decode(length_of(r), r[2]) {
-        Decoded::Erased => r[3] == 1,
-        Decoded::Read(data, repaired) => (r[3] == 0) & (r[4] == data) & (r[5] == repaired),
-    }
+pub(crate) fn word_agrees(r: &[u8; 256]) -> bool {
+    let bytes = word_bytes(hamming::decode(length_of(r[1]), r[2]));
+    bytes_agree(r, 3, &bytes)
 }
 
 // Kind 5: the parity of data.
-pub(crate) fn parity_agrees(r: [u8; 64]) -> bool {
-    hamming::parity_of(length_of(r), r[2]) == r[3]
+pub(crate) fn parity_agrees(r: &[u8; 256]) -> bool {
+    hamming::parity_of(length_of(r[1]), r[2]) == r[3]
 }

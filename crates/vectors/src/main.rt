@@ -1,13 +1,27 @@
 // Runs the vectors of an independent implementation, from standard input, through the libraries. A vector
-// is 64 bytes: its kind, the arguments of a call, and what the call must answer.
+// is 256 bytes: its kind, the arguments of a call, and what the call must answer.
+//
+//   vector     the bytes of a vector, and the numbers and sets in them
+//   coder      packing, the pitch code and the words
+//   frames     the 54 bits of a frame, sets, and what a frame is read as
+//   levels     gain levels and gain codes
+//   taking     receiving, and a receiver's record
+//   in_place   receiving into a record in place
+//   codebooks  rows of a codebook, and values by them
+//   texts      codebooks in their text form
+mod codebooks;
 mod coder;
+mod frames;
 mod in_place;
 mod levels;
 mod taking;
+mod texts;
 mod vector;
 
+ghost use Prim.Native.Nat.{_≤_};
+
 // Whether the libraries answer as the vector says.
-fn agrees(r: [u8; 64]) -> bool {
+fn agrees(r: &[u8; 256]) -> bool {
     let kind = r[0];
     match kind {
         1 => coder::pack_agrees(r),
@@ -19,31 +33,68 @@ fn agrees(r: [u8; 64]) -> bool {
         7 => levels::second_agrees(r),
         8 => levels::choice_agrees(r),
         9 => taking::receive_agrees(r),
+        10 => frames::frame_agrees(r),
+        11 => frames::logical_agrees(r),
+        12 => frames::ranges_agree(r),
+        13 => frames::reading_agrees(r),
+        14 => taking::history_agrees(r),
+        15 => taking::fresh_agrees(r),
+        16 | 17 | 18 | 19 => codebooks::codebook_agrees(r),
+        20 | 21 => texts::text_agrees(r),
         _ => false,
     }
 }
 
-// How many of the vectors in a slice do not agree.
-fn differences(s: &[u8]) -> usize {
-    let mut wrong = 0;
-    for i in 0..s.len() / 64 {
-        if !agrees(vector::at(s, i)) {
-            wrong += 1;
-        }
-    }
-    wrong
+// 1 for a vector that does not agree.
+fn difference(r: &[u8; 256]) -> u64
+    ensures { λ n. ⌜ n ≤ 1 ⌝ }
+{
+    if agrees(r) { 0 } else { 1 }
 }
 
-// Reads the vectors and prints how many there are and how many differ.
+// How many vectors are read at most.
+const MOST: u64 = 4_000_000;
+
+// How many vectors were read, how many of them differ, and how many bytes came after them.
+struct Tally {
+    vectors: u64,
+    differences: u64,
+    left: u64,
+}
+
+// Reads the vectors and runs each.
+fn run() -> Tally {
+    let mut r = [0u8; 256];
+    let mut differences: u64 = 0;
+    for i in 0..MOST {
+        let got = io::read_full(0, &mut r);
+        if got < 256 {
+            return Tally {
+                vectors: i,
+                differences,
+                left: got as u64,
+            };
+        }
+        differences += difference(&r);
+    }
+    Tally {
+        vectors: MOST,
+        differences,
+        left: 0,
+    }
+}
+
+// A name and a number.
+fn print(name: &[u8], n: u64) {
+    io::write_all(1, name);
+    io::print_decimal(1, n);
+}
+
+// Prints the tally.
 fn main() {
-    let mut buffer = io::large_buffer();
-    let got = io::read_full(0, &mut buffer);
-    let vectors = &buffer[..got];
-    io::write_all(1, b"vectors=");
-    io::print_decimal(1, (vectors.len() / 64) as u64);
-    io::write_all(1, b" differences=");
-    io::print_decimal(1, differences(vectors) as u64);
-    io::write_all(1, b" left=");
-    io::print_decimal(1, (vectors.len() % 64) as u64);
+    let tally = run();
+    print(b"vectors=", tally.vectors);
+    print(b" differences=", tally.differences);
+    print(b" left=", tally.left);
     io::write_all(1, b"\n");
 }

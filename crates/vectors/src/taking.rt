@@ -1,14 +1,19 @@
-// Vectors of receiving.
+// Vectors of receiving and of a receiver's record.
 use crate::in_place::in_place;
+use crate::vector::bit;
+use crate::vector::bytes_agree;
+use crate::vector::count;
+use crate::vector::part;
+use crate::vector::refused;
+use crate::vector::set_agrees;
 use crate::vector::set_of;
-use crate::vector::wide;
+use crate::vector::wide_at;
 use receiver::FrameResult;
 use receiver::Kind;
 use receiver::ReceiveAnswer;
 use receiver::Received;
 use records::FrameKind;
 use records::Record;
-use sets::ParameterSet;
 ghost use Prim.Native.Nat.{_≤_};
 
 // The sixteen kinds by their bits, 1 for a repeat, the oldest most significant.
@@ -24,64 +29,34 @@ fn kinds_of(bits: u32) -> [FrameKind; 16] {
     kinds
 }
 
+// The bits of sixteen kinds.
+fn bits_of(kinds: [FrameKind; 16]) -> u32 {
+    let mut bits: u32 = 0;
+    for i in 0..16 {
+        let kind = kinds[i];
+        bits = bits % 32768 * 2 + bit(kind.repeat) as u32;
+    }
+    bits
+}
+
 // The record in bytes 1 to 14.
-fn record_of(r: [u8; 64]) -> Record {
+fn record_of(r: &[u8; 256]) -> Record {
     Record {
         last: set_of(r),
         g2: r[12],
-        kinds: kinds_of(wide(r[13], r[14])),
+        kinds: kinds_of(wide_at(r, 13)),
     }
 }
 
-// A set as a vector has it.
-fn set_bytes(set: ParameterSet) -> [u8; 11] {
-    match set {
-        ParameterSet::Unvoiced(x) => [0, 0, x.l1, x.l2, x.l3, x.l4, x.g2, x.g1, 0, 0, 0],
-        ParameterSet::Voiced(x, v) => [
-            1,
-            v.pitch,
-            x.l1,
-            x.l2,
-            x.l3,
-            x.l4,
-            x.g2,
-            x.g1,
-            v.bandpass,
-            v.fourier,
-            v.aperiodic,
-        ],
-    }
-}
-
-// Whether the set is the one in the eleven bytes from `start`.
-fn set_agrees(r: [u8; 64], start: usize, set: ParameterSet) -> bool
-    requires { ⌜ start ≤ 53 ⌝ }
+// Whether the record is the one in the fourteen bytes from `start`.
+fn record_agrees(r: &[u8; 256], start: usize, rec: Record) -> bool
+    requires { ⌜ start ≤ 242 ⌝ }
 {
-    let bytes = set_bytes(set);
-    let mut same = true;
-    for k in 0..11 {
-        same = same & (r[start + k] == bytes[k]);
-    }
-    same
-}
-
-// Whether the sixteen kinds have these bits.
-fn kinds_agree(kinds: [FrameKind; 16], bits: u32) -> bool {
-    let mut same = true;
-    let mut left = bits;
-    for i in 0..16 {
-        let kind = kinds[15 - i];
-        same = same & (kind.repeat == (left % 2 == 1));
-        left = left / 2;
-    }
-    same
-}
-
-// Whether the record afterwards is the one in bytes 45 to 58.
-fn next_agrees(r: [u8; 64], next: Record) -> bool {
-    let last = next.last;
-    let kinds = next.kinds;
-    set_agrees(r, 45, last) & (next.g2 == r[56]) & kinds_agree(kinds, wide(r[57], r[58]))
+    let last = rec.last;
+    let kinds = rec.kinds;
+    set_agrees(r, start, last)
+        & (r[start + 11] == rec.g2)
+        & (wide_at(r, start + 12) == bits_of(kinds))
 }
 
 // The number of a result's kind.
@@ -94,17 +69,18 @@ fn number_of(kind: Kind) -> u8 {
 }
 
 // Whether both levels are those in bytes 38 to 41.
-fn levels_agree(r: [u8; 64], first: u32, second: u32) -> bool {
-    (first == wide(r[38], r[39])) & (second == wide(r[40], r[41]))
+fn levels_agree(r: &[u8; 256], first: u32, second: u32) -> bool {
+    (wide_at(r, 38) == first) & (wide_at(r, 40) == second)
 }
 
 // Whether mute, the sync bit and the repaired count are those in bytes 42 to 44.
-fn marks_agree(r: [u8; 64], mute: bool, sync: bool, repaired: u8) -> bool {
-    ((r[42] == 1) == mute) & ((r[43] == 1) == sync) & (r[44] == repaired)
+fn marks_agree(r: &[u8; 256], mute: bool, sync: bool, repaired: u8) -> bool {
+    let bytes = [bit(mute), bit(sync), repaired];
+    bytes_agree(r, 42, &bytes)
 }
 
 // Whether the result is the one in bytes 26 to 44.
-fn result_agrees(r: [u8; 64], result: FrameResult) -> bool {
+fn result_agrees(r: &[u8; 256], result: FrameResult) -> bool {
     let kind = result.kind;
     let set = result.set;
     (r[26] == number_of(kind))
@@ -113,30 +89,47 @@ fn result_agrees(r: [u8; 64], result: FrameResult) -> bool {
         & marks_agree(r, result.mute, result.sync, result.repaired)
 }
 
-// Whether the answer is the one in bytes 25 to 44.
-fn answer_agrees(r: [u8; 64], answer: ReceiveAnswer) -> bool {
+// Whether the answer is the one in bytes 25 to 44; of a refusal there is only its number.
+fn answer_agrees(r: &[u8; 256], answer: ReceiveAnswer) -> bool {
     match answer {
         ReceiveAnswer::Result(result) => (r[25] == 0) & result_agrees(r, result),
-        ReceiveAnswer::Refused(n) => (n != 0) & (r[25] == n),
+        ReceiveAnswer::Refused(n) => r[25] == refused(n),
     }
 }
 
-// Whether the answer and the record after it are those of the vector.
-fn received_agrees(r: [u8; 64], received: Received) -> bool {
+// Whether the answer and the record after it are those in bytes 25 to 58.
+fn received_agrees(r: &[u8; 256], received: Received) -> bool {
     let answer = received.answer;
     let next = received.next;
-    answer_agrees(r, answer) & next_agrees(r, next)
+    answer_agrees(r, answer) & record_agrees(r, 45, next)
 }
 
 // Kind 9: receiving, by value and in place.
-pub(crate) fn receive_agrees(r: [u8; 64]) -> bool {
-    let size = r[15] as usize;
+pub(crate) fn receive_agrees(r: &[u8; 256]) -> bool {
+    let size = count(r[15]);
     if 9 < size {
         return false;
     }
-    let end = 16 + size;
     let rec = record_of(r);
-    let by_value = receiver::receive(rec, &r[16..end]);
-    let changed = in_place(rec, &r[16..end]);
-    received_agrees(r, by_value) & received_agrees(r, changed)
+    let frame = part(r, 16, size);
+    received_agrees(r, receiver::receive(rec, frame)) & received_agrees(r, in_place(rec, frame))
+}
+
+// Whether the kinds after one more are those in bytes 18 and 19.
+fn pushed_agrees(r: &[u8; 256], kinds: [FrameKind; 16]) -> bool {
+    let kind = FrameKind { repeat: r[15] == 1 };
+    wide_at(r, 18) == bits_of(records::push(kinds, kind))
+}
+
+// Kind 14: whether a record is valid, whether its kinds mute, and the kinds after one more.
+pub(crate) fn history_agrees(r: &[u8; 256]) -> bool {
+    let rec = record_of(r);
+    let kinds = rec.kinds;
+    let bytes = [bit(records::is_valid(rec)), bit(records::is_muted(kinds))];
+    bytes_agree(r, 16, &bytes) & pushed_agrees(r, kinds)
+}
+
+// Kind 15: what a sender and a receiver start with.
+pub(crate) fn fresh_agrees(r: &[u8; 256]) -> bool {
+    (r[1] == bit(frame::fresh_sync())) & record_agrees(r, 2, records::fresh())
 }

@@ -5,11 +5,11 @@ use borrow.Author.Needs.{needs}
 use Rattle.vectors.proofs.coder.pack_agrees.Statement.{statement}
 use Rattle.vectors.proofs.coder.pack_agrees.Tie as tie
 
-array-read-room : tie.Need-array-read-room
-array-read-room c = search needs
+element-copy-out-count : tie.Need-element-copy-out-count
+element-copy-out-count c = search needs
 
-cast-room : tie.Need-cast-room
-cast-room c = search needs
+count-requires : tie.Need-count-requires
+count-requires c κs = search needs
 
 returns : tie.Need-returns
 returns c = search needs
@@ -17,23 +17,20 @@ returns c = search needs
 set-of-requires : tie.Need-set-of-requires
 set-of-requires c κs = search needs
 
-array-read-pack : tie.Need-array-read-pack
-array-read-pack c = search needs
+element-copy-out-pack : tie.Need-element-copy-out-pack
+element-copy-out-pack c = search needs
 
 array-borrow-prefix-out : tie.Need-array-borrow-prefix-out
 array-borrow-prefix-out c = search needs
 
 slice-aggregate-pack : tie.Need-slice-aggregate-pack
-slice-aggregate-pack c = sym (length-take-le _ _ (c .before .before .if1 .left))
+slice-aggregate-pack c = sym (length-take-le _ _ (c .before .before .before .if1 .left))
 
 pack-requires : tie.Need-pack-requires
 pack-requires c κs = search needs
 
-answer-agrees-requires : tie.Need-answer-agrees-requires
-answer-agrees-requires c κs = search needs
-
-output-agrees-requires : tie.Need-output-agrees-requires
-output-agrees-requires c κs = search needs
+packed-agrees-requires : tie.Need-packed-agrees-requires
+packed-agrees-requires c κs = search needs
 
 returns-2 : tie.Need-returns-2
 returns-2 c = search needs
@@ -42,14 +39,13 @@ pub pack-agrees-spec : {M : Type 1} → statement M
 pack-agrees-spec =
     tie.close
     (tie.spec
-    array-read-room
-    cast-room
+    element-copy-out-count
+    count-requires
     returns
     set-of-requires
-    array-read-pack
+    element-copy-out-pack
     array-borrow-prefix-out
     slice-aggregate-pack
     pack-requires
-    answer-agrees-requires
-    output-agrees-requires
+    packed-agrees-requires
     returns-2)

@@ -1,5 +1,5 @@
 -- `vectors::levels::signed` is safe: no number below 2 ^ 31 taken from -1 leaves the type. Assumes nothing.
-use Prim.Native.Nat.{ℕ, zero, suc, _-_, _+_, _*_, _^_, _<_}
+use Prim.Native.Nat.{ℕ, zero, suc, _-_, _^_, _<_}
 use native.Mathlib.Omega.{arith}
 use lib.IntN.{pos, negsuc, _-ℤ_}
 use mir.Syntax.{w32}
@@ -8,18 +8,6 @@ use mir.ValLaws.{toZ-pos}
 use borrow.Author.Needs.{needs}
 use Rattle.vectors.proofs.levels.signed.Statement.{statement}
 use Rattle.vectors.proofs.levels.signed.Tie as tie
-
-wide-requires : tie.Need-wide-requires
-wide-requires c κs = search needs
-
-mul-x : tie.Need-mul-x
-mul-x c = search needs
-
-wide-requires-2 : tie.Need-wide-requires-2
-wide-requires-2 c κs = search needs
-
-add-x : tie.Need-add-x
-add-x c = search needs
 
 cast-result : tie.Need-cast-result
 cast-result c = search needs
@@ -39,7 +27,7 @@ below (suc y) h = record { sfits = omega arith }
 
 sub-result-2 : tie.Need-sub-result-2
 sub-result-2 c =
-    let x : ℕ = c .before .before .wide .result * 65536 + c .before .wide2 .result in
+    let x : ℕ = c .before .args .x in
     let h : 4294967295 - x < 2 ^ 31 = omega arith in
     rw (toZ-pos w32 (4294967295 - x) h) (below (4294967295 - x) h)
 
@@ -48,15 +36,4 @@ returns-2 c = search needs
 
 pub signed-spec : {M : Type 1} → statement M
 signed-spec =
-    tie.close
-    (tie.spec
-    wide-requires
-    mul-x
-    wide-requires-2
-    add-x
-    cast-result
-    returns
-    sub-result
-    cast-result-2
-    sub-result-2
-    returns-2)
+    tie.close (tie.spec cast-result returns sub-result cast-result-2 sub-result-2 returns-2)

@@ -1,23 +1,32 @@
--- `vectors::taking::kinds_agree` is safe and ends: i is at most 16. Assumes nothing.
+-- `vectors::taking::bits_of` is safe and ends: i is at most 16. Assumes nothing.
 use Prim.Native.Nat.{_≤_, _-_}
 use borrow.Author.Needs.{needs}
-use Rattle.vectors.proofs.taking.kinds_agree.Statement.{statement}
-use Rattle.vectors.proofs.taking.kinds_agree.Tie as tie
+use Rattle.vectors.proofs.taking.bits_of.Statement.{statement}
+use Rattle.vectors.proofs.taking.bits_of.Tie as tie
 
 abbrev Inv-loop : tie.InvT-loop
-Inv-loop bits kinds same₀ left₀ i₀ same left i = i ≤ 16
+Inv-loop kinds bits₀ i₀ bits i = i ≤ 16
 
 abbrev μ-loop : tie.MeasureT-loop
-μ-loop bits kinds same₀ left₀ i₀ same left i = 16 - i
+μ-loop kinds bits₀ i₀ bits i = 16 - i
 
 loop-holds : tie.Need-loop-holds Inv-loop μ-loop
 loop-holds c = search needs
 
-sub-kind : tie.Need-sub-kind Inv-loop μ-loop
-sub-kind c = search needs
-
 array-copy-out-kind : tie.Need-array-copy-out-kind Inv-loop μ-loop
 array-copy-out-kind c = search needs
+
+mul-bits : tie.Need-mul-bits Inv-loop μ-loop
+mul-bits c = search needs
+
+bit-requires : tie.Need-bit-requires Inv-loop μ-loop
+bit-requires c κs = search needs
+
+cast-bits : tie.Need-cast-bits Inv-loop μ-loop
+cast-bits c = search needs
+
+add-bits : tie.Need-add-bits Inv-loop μ-loop
+add-bits c = search needs
 
 add-i : tie.Need-add-i Inv-loop μ-loop
 add-i c = search needs
@@ -31,15 +40,18 @@ loop-again c = search needs
 returns : tie.Need-returns Inv-loop μ-loop
 returns c = search needs
 
-pub kinds-agree-spec : {M : Type 1} → statement M
-kinds-agree-spec =
+pub bits-of-spec : {M : Type 1} → statement M
+bits-of-spec =
     tie.close
     (tie.spec
     Inv-loop
     μ-loop
     loop-holds
-    sub-kind
     array-copy-out-kind
+    mul-bits
+    bit-requires
+    cast-bits
+    add-bits
     add-i
     loop-less
     loop-again

@@ -1,0 +1,60 @@
+-- `vectors::codebooks::ruled` is safe and ends: i is at most 3201. Assumes nothing.
+use mathlib.Core.Path.{_≡_}
+use Prim.Native.Nat.{_≤_, _-_}
+use lib.ListN.{length}
+use borrow.Author.Needs.{needs}
+use Rattle.vectors.proofs.codebooks.ruled.Statement.{statement}
+use Rattle.vectors.proofs.codebooks.ruled.Tie as tie
+
+abbrev Inv-loop : tie.InvT-loop
+Inv-loop start step jump codebook₀ value₀ i₀ codebook value i = (i ≤ 3201) × (length codebook ≡ 3201)
+
+abbrev μ-loop : tie.MeasureT-loop
+μ-loop start step jump codebook₀ value₀ i₀ codebook value i = 3201 - i
+
+loop-holds : tie.Need-loop-holds Inv-loop μ-loop
+loop-holds c = search needs
+
+signed-requires : tie.Need-signed-requires Inv-loop μ-loop
+signed-requires c κs = search needs
+
+mul-codebook : tie.Need-mul-codebook Inv-loop μ-loop
+mul-codebook c = search needs
+
+array-set-from-codebook : tie.Need-array-set-from-codebook Inv-loop μ-loop
+array-set-from-codebook c = search needs
+
+added-requires : tie.Need-added-requires Inv-loop μ-loop
+added-requires c κs = search needs
+
+wrapping-add-u64-requires : tie.Need-wrapping-add-u64-requires Inv-loop μ-loop
+wrapping-add-u64-requires c κs = search needs
+
+add-i : tie.Need-add-i Inv-loop μ-loop
+add-i c = search needs
+
+loop-less : tie.Need-loop-less Inv-loop μ-loop
+loop-less c = search needs
+
+loop-again : tie.Need-loop-again Inv-loop μ-loop
+loop-again c = search needs
+
+returns : tie.Need-returns Inv-loop μ-loop
+returns c = search needs
+
+pub ruled-spec : {M : Type 1} → statement M
+ruled-spec =
+    tie.close
+    (tie.spec
+    Inv-loop
+    μ-loop
+    loop-holds
+    signed-requires
+    mul-codebook
+    array-set-from-codebook
+    added-requires
+    wrapping-add-u64-requires
+    add-i
+    loop-less
+    loop-again
+    returns)
