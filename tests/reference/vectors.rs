@@ -122,25 +122,30 @@ fn spoilt_vector(random: &mut Random) -> Vector {
 fn good_vectors(random: &mut Random) -> Vec<Vector> {
     let mut vectors = Vec::new();
     for maker in MAKERS {
-        vectors.extend((0..8).map(|_| maker(random)));
+        vectors.extend((0..7).map(|_| maker(random)));
     }
     vectors.extend(codebook_vectors::conditions());
     vectors.extend(text_vectors::conditions());
     vectors
 }
 
-/// Of each kind and of each list of compared bytes one vector, as often as it has such bytes: wrong in one of them each.
+/// Of each kind and of each list of compared bytes one vector as often as it has such bytes, wrong in one of them each;
+/// and one that is wrong in the first byte, mostly the refusal, where that is 0, and one where it is not.
 fn wrong_vectors(random: &mut Random) -> Vec<Vector> {
     let mut vectors = Vec::new();
     for maker in MAKERS {
-        let mut seen = Vec::new();
+        let mut seen: Vec<(Vec<usize>, bool)> = Vec::new();
         for _ in 0..200 {
             let vector = maker(random);
             let bytes = compared(&vector);
-            if !seen.contains(&bytes) {
-                vectors.extend(bytes.iter().map(|at| changed(&vector, *at)));
-                seen.push(bytes);
+            let refused = vector[bytes[0]] != 0;
+            if seen.contains(&(bytes.clone(), refused)) {
+                continue;
             }
+            let is_new = seen.iter().all(|(others, _)| *others != bytes);
+            let count = if is_new { bytes.len() } else { 1 };
+            vectors.extend(bytes[..count].iter().map(|at| changed(&vector, *at)));
+            seen.push((bytes, refused));
         }
     }
     vectors

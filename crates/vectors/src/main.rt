@@ -39,7 +39,7 @@ fn agrees(r: &[u8; 256]) -> bool {
         13 => frames::reading_agrees(r),
         14 => taking::history_agrees(r),
         15 => taking::fresh_agrees(r),
-        16 | 17 | 18 | 19 => codebooks::codebook_agrees(r),
+        16..=19 => codebooks::codebook_agrees(r),
         20 | 21 => texts::text_agrees(r),
         _ => false,
     }
