@@ -89,6 +89,13 @@ pub fn receive(random: &mut Random) -> Vector {
     vector
 }
 
+/// A vector of receiving one frame into a record in place: all else is as in kind 9.
+pub fn receive_in_place(random: &mut Random) -> Vector {
+    let mut vector = receive(random);
+    vector[0] = 22;
+    vector
+}
+
 // ---- Kind 14: the record ----
 
 /// A vector of whether a record is valid, whether it mutes, and its kinds after one more.

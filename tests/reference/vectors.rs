@@ -22,7 +22,7 @@ use std::process::ExitCode;
 // ---- Kinds ----
 
 /// A maker of vectors of each kind, from kind 1 on.
-const MAKERS: [fn(&mut Random) -> Vector; 21] = [
+const MAKERS: [fn(&mut Random) -> Vector; 22] = [
     coder_vectors::pack,
     coder_vectors::class,
     coder_vectors::code,
@@ -44,12 +44,14 @@ const MAKERS: [fn(&mut Random) -> Vector; 21] = [
     codebook_vectors::magnitudes,
     text_vectors::lsf_text,
     text_vectors::magnitude_text,
+    receiver_vectors::receive_in_place,
 ];
 
-/// One vector of a random kind, a quarter of them of kind 9.
+/// One vector of a random kind, a quarter of them of receiving.
 fn random_vector(random: &mut Random) -> Vector {
     if random.once_in(4) {
-        return receiver_vectors::receive(random);
+        let way = random.pick(&[receiver_vectors::receive, receiver_vectors::receive_in_place]);
+        return way(random);
     }
     let maker = random.pick(&MAKERS);
     maker(random)
@@ -85,8 +87,8 @@ fn compared(vector: &Vector) -> Vec<usize> {
         6 => (4..=6).collect(),
         7 => (2..=4).collect(),
         8 => (10..=12).collect(),
-        9 if is_given(25) => once(25).chain(45..=58).collect(),
-        9 => (25..=58).collect(),
+        9 | 22 if is_given(25) => once(25).chain(45..=58).collect(),
+        9 | 22 => (25..=58).collect(),
         10 => (9..=15).collect(),
         11 => (11..=19).collect(),
         12 => (12..=19).collect(),
@@ -98,7 +100,7 @@ fn compared(vector: &Vector) -> Vec<usize> {
         16 | 17 => (72..=153).collect(),
         18 | 19 => once(72).chain(74..=169).collect(),
         20 | 21 => once(72).chain(compared_numbers(vector)).collect(),
-        _ => unreachable!("the makers have 21 kinds"),
+        _ => unreachable!("the makers have 22 kinds"),
     }
 }
 
@@ -153,7 +155,7 @@ fn wrong_vectors(random: &mut Random) -> Vec<Vector> {
 
 /// Vectors of no kind, or with an argument that no vector has.
 fn bad_vectors(random: &mut Random) -> Vec<Vector> {
-    let mut vectors = vec![vector_of(0), vector_of(22), vector_of(255)];
+    let mut vectors = vec![vector_of(0), vector_of(23), vector_of(255)];
     let with = |kind: usize, at: usize, bytes: &[u8], random: &mut Random| {
         let mut vector = MAKERS[kind - 1](random);
         layout::put(&mut vector, at, bytes);
@@ -162,6 +164,7 @@ fn bad_vectors(random: &mut Random) -> Vec<Vector> {
     let size = 3202u16.to_be_bytes();
     vectors.push(with(1, 13, &[17], random));
     vectors.push(with(9, 15, &[10], random));
+    vectors.push(with(22, 15, &[10], random));
     vectors.push(with(11, 1, &[10], random));
     vectors.push(with(16, 16, &size, random));
     vectors.push(with(16, 73, &[13], random));

@@ -32,7 +32,7 @@ fn agrees(r: &[u8; 256]) -> bool {
         6 => levels::first_agrees(r),
         7 => levels::second_agrees(r),
         8 => levels::choice_agrees(r),
-        9 => taking::receive_agrees(r),
+        9 | 22 => taking::receive_agrees(r),
         10 => frames::frame_agrees(r),
         11 => frames::logical_agrees(r),
         12 => frames::ranges_agree(r),

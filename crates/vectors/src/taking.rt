@@ -104,15 +104,21 @@ fn received_agrees(r: &[u8; 256], received: Received) -> bool {
     answer_agrees(r, answer) & record_agrees(r, 45, next)
 }
 
-// Kind 9: receiving, by value and in place.
+// A frame into a record: by value in kind 9, in place in kind 22.
+fn received(kind: u8, rec: Record, frame: &[u8]) -> Received {
+    if kind == 22 {
+        return in_place(rec, frame);
+    }
+    receiver::receive(rec, frame)
+}
+
+// Kinds 9 and 22: receiving.
 pub(crate) fn receive_agrees(r: &[u8; 256]) -> bool {
     let size = count(r[15]);
     if 9 < size {
         return false;
     }
-    let rec = record_of(r);
-    let frame = part(r, 16, size);
-    received_agrees(r, receiver::receive(rec, frame)) & received_agrees(r, in_place(rec, frame))
+    received_agrees(r, received(r[0], record_of(r), part(r, 16, size)))
 }
 
 // Whether the kinds after one more are those in bytes 18 and 19.
