@@ -5,3 +5,4 @@ pub mod Value
 pub mod Digits
 pub mod Cut
 pub mod Front
+pub mod Buffers

@@ -1,7 +1,8 @@
--- Claims about lists, and what a lent list holds after a call. Helpers of every section of document 01.
+-- Claims about lists, and what a lent list holds after a call or a read. Helpers of every section of document 01.
 use Prim.Native.Nat.{ℕ, zero, suc}
+use mathlib.Core.Path.{_≡_}
 use mathlib.Core.List.{List, [], _∷_, _++_}
-use lib.ListN.{drop}
+use lib.ListN.{length, take, drop}
 
 -- a claim about every element
 abbrev pub Every : {A : Type 0} → (A → Type 0) → List A → Type 0
@@ -18,3 +19,7 @@ Successive P (x ∷ y ∷ ys) = P x y × Successive P (y ∷ ys)
 abbrev pub writtenUnless : {A : Type 0} → ℕ → ℕ → List A → List A → List A
 writtenUnless zero n front out = front ++ drop n out
 writtenUnless (suc r) n front out = out
+
+-- what a read of an input leaves in a lent buffer: its first n bytes are the whole input, or as much of it as the buffer takes
+abbrev pub ReadFrom : List ℕ → ℕ → List ℕ → Type 0
+ReadFrom buffer n whole = take n buffer ≡ take (length buffer) whole

@@ -45,7 +45,7 @@ unfoldable pub allDigits : List ℕ → Bool
 allDigits [] = true
 allDigits (c ∷ cs) = isDigit c && allDigits cs
 
--- one to ten digits ("then one to ten digits; leading zeros pass")
+-- one to ten digits; zeros in front are among them
 unfoldable pub isDigits : List ℕ → Bool
 isDigits cs = leb 1 (length cs) && leb (length cs) 10 && allDigits cs
 
@@ -58,7 +58,7 @@ valueAfter v (c ∷ cs) = valueAfter (10 * v + (c - 48)) cs
 abbrev pub digitsValue : List ℕ → ℕ
 digitsValue cs = valueAfter 0 cs
 
--- a good line ("a minus where negative, then one to ten digits", "a minus before a zero value is bad")
+-- a good line: a minus or none, then one to ten digits, and no minus before a value of 0
 unfoldable pub isNumber : List ℕ → Bool
 isNumber line = isDigits (unsigned line) && not (isNegative line && eqb (digitsValue (unsigned line)) 0)
 

@@ -3,6 +3,7 @@ use Prim.Native.Nat.{ℕ, zero, suc, _+_, _*_, _/_, _%_}
 use mathlib.Core.Path.{_≡_}
 use mathlib.Core.List.{List, _++_}
 use lib.ListN.{length, take, drop}
+use Rattle.bits.specs.Lists.{ReadFrom}
 use Rattle.order.specs.Order.{defaultOrder}
 use Rattle.receiver.specs.declared.Kind.{Kind}
 use Rattle.receiver.specs.declared.Kind.the-variants.{Unvoiced, Voiced, Repeat}
@@ -60,6 +61,10 @@ text bytes = textBefore bytes (framesIn bytes) ++ lastLine (framesIn bytes) (rep
 -- what is printed for all of standard input: bytes past the 65,534th, those of 9,362 frames, are neither read nor counted
 abbrev pub printed : List ℕ → List ℕ
 printed input = text (take 65534 input)
+
+-- as many bytes as are printed, for every input from which a buffer and the count of its bytes were read
+abbrev pub AllPrinted : List ℕ → ℕ → ℕ → Type 0
+AllPrinted buffer size count = (input : List ℕ) → ReadFrom buffer size input → count ≡ length (printed input)
 
 -- a helper of the code: of the text so far, `sent` bytes have gone out and the others wait at the front of a buffer, up to `end`
 abbrev pub Pending : List ℕ → ℕ → ℕ → List ℕ → Type 0

@@ -2,12 +2,12 @@
 -- is read whole. Assumes nothing.
 use mathlib.Core.Path.{_≡_, refl, sym, ap, _∙_}
 use mathlib.Core.Bool.{Bool, true, false}
-use mathlib.Core.List.{List, _++_}
+use mathlib.Core.List.{List}
 use Prim.Native.Nat.{ℕ, zero, suc, _≤_}
 use native.Mathlib.Omega.{arith}
 use lib.Dec.{leb, eqb}
-use lib.ListN.{length, take, drop, length-take}
-use lib.Seq.{take-all, length-take-le, length-front, take-append-seam}
+use lib.ListN.{length, take}
+use lib.Seq.{take-all, length-take-le}
 use borrow.Author.Tests.{leb-true, leb-false, ne-eqb}
 use Rattle.order.specs.Order.{defaultOrder}
 use Rattle.sets.specs.declared.ParameterSet.{ParameterSet}
@@ -19,7 +19,7 @@ use Rattle.codebook_text.specs.Text.{textRefusal}
 use Rattle.spectrum.specs.declared.values.Spectrum.{Spectrum}
 use Rattle.spectrum.specs.Values.{refused, unless, ofTexts, ofAnswer, ofFrame}
 use Rattle.spectrum.specs.Lines.{text}
-use Rattle.spectrum.specs.Printed.{printed, EnoughRead, ReadFrom, Prints}
+use Rattle.spectrum.specs.Printed.{printed, EnoughRead, Prints}
 use Rattle.spectrum.proofs.LongFiles.{long-refused}
 
 -- what is the same for all inputs of n bytes and more is known by the first n
@@ -63,14 +63,6 @@ enough-read = record {
       let e = front-enough 8 (λ bytes. receive defaultOrder fresh bytes .answer) (Refused 2) long-input input in
       ap text (answer-enough (receive defaultOrder fresh (take 8 input) .answer) lsf magnitudes ∙ ap (λ (r : ReceiveAnswer). ofAnswer r lsf magnitudes) e);
 }
-
--- a read into a buffer, of as much of an input as the buffer takes, leaves what is meant
-pub read-leaves : (whole buffer : List ℕ) → let front = take (length buffer) whole in ReadFrom (front ++ drop (length front) buffer) (length front) whole
-read-leaves whole buffer =
-    let front = take (length buffer) whole in
-    let fits : length front ≤ length buffer = rw (length-take (length buffer) whole) (omega arith) in
-    let size = length-front buffer front (length front) (sym (length-take-le (length front) buffer fits)) in
-    take-append-seam front (drop (length front) buffer) ∙ sym (ap (λ (n : ℕ). take n whole) size)
 
 -- what is printed for the bytes that were read
 pub read-printed : (input : List ℕ) (n : ℕ) (lsf : List ℕ) (l : ℕ) (magnitudes : List ℕ) (m : ℕ)

@@ -3,7 +3,8 @@
 use Prim.Native.Nat.{ℕ}
 use mathlib.Core.Path.{_≡_}
 use mathlib.Core.List.{List}
-use lib.ListN.{length, take}
+use lib.ListN.{take}
+use Rattle.bits.specs.Lists.{ReadFrom}
 use Rattle.spectrum.specs.Values.{ofFrame}
 use Rattle.spectrum.specs.Lines.{text}
 
@@ -14,10 +15,6 @@ printed input lsf magnitudes = text (ofFrame input lsf magnitudes)
 -- the program reads at most 8 bytes of standard input and 65,536 of a file; what follows those changes nothing that is printed
 pub record EnoughRead : Type 0 where
   pub same : (input lsf magnitudes : List ℕ) → printed (take 8 input) (take 65536 lsf) (take 65536 magnitudes) ≡ printed input lsf magnitudes
-
--- what a read leaves: the first n bytes of a buffer are the whole input, or as much of it as the buffer takes
-abbrev pub ReadFrom : List ℕ → ℕ → List ℕ → Type 0
-ReadFrom buffer n whole = take n buffer ≡ take (length buffer) whole
 
 -- bytes that are printed for every three inputs from which these buffers were read
 abbrev pub Prints : List ℕ → ℕ → List ℕ → ℕ → List ℕ → ℕ → List ℕ → Type 0
