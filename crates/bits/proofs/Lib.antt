@@ -6,3 +6,5 @@ pub mod Digits
 pub mod Cut
 pub mod Front
 pub mod Buffers
+pub mod Numbers
+pub mod Refusals

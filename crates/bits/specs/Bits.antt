@@ -3,7 +3,7 @@ use Prim.Native.Nat.{ℕ, zero, suc, _+_, _*_, _/_, _%_, _^_}
 use mathlib.Core.Bool.{Bool, true, false, not, _&&_, Bool·beq}
 use mathlib.Core.List.{List, [], _∷_}
 use lib.Dec.{eqb}
-use lib.ListN.{length}
+use lib.ListN.{length, getD}
 
 infixl 60 _⊻_
 infixl 60 _⊕_
@@ -58,3 +58,7 @@ same (a ∷ xs) (b ∷ ys) = Bool·beq a b && same xs ys
 abbrev pub cut : {A : Type 0} → (ℕ → A) → ℕ → ℕ → List A
 cut g i zero = []
 cut g i (suc n) = g i ∷ cut g (suc i) n
+
+-- the n low bits of a number as a sequence, the most significant first: how code carries a frame's bits in one number
+abbrev pub carried : ℕ → ℕ → ℕ → Bool
+carried n number j = getD (bits n number) j false
