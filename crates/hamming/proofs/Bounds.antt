@@ -1,22 +1,15 @@
 -- Whatever a word is read as: its data are below two to the number of data bits, and at most one bit was repaired.
 -- Assumes nothing.
-use mathlib.Core.Path.{_≡_, _∙_, subst}
+use mathlib.Core.Path.{_≡_, _∙_}
 use mathlib.Core.Bool.{Bool}
 use mathlib.Core.List.{List}
-use Prim.Native.Nat.{ℕ, _^_, _≤_, _<_}
+use Prim.Native.Nat.{ℕ}
 use native.Mathlib.Omega.{arith}
 use lib.Dec.{lit≤}
 use lib.ListN.{length, length-take}
 use Rattle.bits.proofs.Value.{value-lt-at}
-use Rattle.hamming.specs.Word.{dataBits, dataOf, syndrome, flipAt, Fix, stand, flip, erase, fixOf, mend, decode}
-use Rattle.hamming.specs.declared.Decoded.{Decoded}
-use Rattle.hamming.specs.declared.Decoded.the-variants.{Read, Erased}
+use Rattle.hamming.specs.Word.{dataBits, dataOf, syndrome, flipAt, Fix, stand, flip, erase, fixOf, mend, decode, Bounded}
 use Rattle.hamming.proofs.Words.{length-flip}
-
--- a reading of a word of n bits is within its bounds
-abbrev Bounded : ℕ → Decoded → Type 0
-Bounded n (Read d k) = (d < 2 ^ dataBits n) × (k ≤ 1)
-Bounded n Erased = Unit
 
 length-data : (n : ℕ) (w : List Bool) → length w ≡ n → length (dataOf n w) ≡ dataBits n
 length-data n w e = length-take (dataBits n) w ∙ omega arith
@@ -27,15 +20,7 @@ mend-bounded n w e (flip k) =
     (value-lt-at (dataBits n) (dataOf n (flipAt k w)) (length-data n (flipAt k w) (length-flip k w ∙ e)), lit≤ tt)
 mend-bounded n w e erase = tt
 
-module _ (n : ℕ) (w : List Bool) (e : length w ≡ n) where
-  bounded : Bounded n (decode n w)
-  unfolding decode
-  bounded = mend-bounded n w e (fixOf n (syndrome n w))
-
-  -- the data of a word that is read
-  pub data-lt : (d k : ℕ) → decode n w ≡ Read d k → d < 2 ^ dataBits n
-  data-lt d k r = subst (Bounded n) r bounded .0
-
-  -- its repaired count
-  pub repaired-le : (d k : ℕ) → decode n w ≡ Read d k → k ≤ 1
-  repaired-le d k r = subst (Bounded n) r bounded .1
+-- what a received word is read as fits it
+pub decode-bounded : (n : ℕ) (w : List Bool) → length w ≡ n → Bounded n (decode n w)
+unfolding decode
+decode-bounded n w e = mend-bounded n w e (fixOf n (syndrome n w))

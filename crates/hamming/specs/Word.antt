@@ -1,5 +1,5 @@
 -- Document 01, "The four words" (MIL-STD-3005, 5.4). A word is given by its length n: eight bits (A), six (B), seven (C and D).
-use Prim.Native.Nat.{ℕ, zero, suc, _-_, _%_}
+use Prim.Native.Nat.{ℕ, zero, suc, _-_, _%_, _^_, _≤_, _<_}
 use mathlib.Core.Bool.{Bool, false, not, cond, _&&_}
 use mathlib.Core.List.{List, [], _∷_, _++_}
 use lib.Dec.{eqb}
@@ -86,3 +86,9 @@ mend n w erase = Erased
 -- what a received word of n bits is read as
 unfoldable pub decode : ℕ → List Bool → Decoded
 decode n w = mend n w (fixOf n (syndrome n w))
+
+-- an outcome that fits a word of n bits, however it was chosen: data below two to the number of data bits, and at most one bit repaired.
+-- A helper of the code above
+abbrev pub Bounded : ℕ → Decoded → Type 0
+Bounded n (Read d k) = (d < 2 ^ dataBits n) × (k ≤ 1)
+Bounded n Erased = Unit

@@ -1,8 +1,9 @@
+pub mod Fields
 pub mod Entries
 pub mod Places
 pub mod Bytes
 pub mod Frames
 pub mod Default
-pub mod Words
+pub mod Gathering
 pub mod Refusals
 pub mod Answers

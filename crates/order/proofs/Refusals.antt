@@ -1,7 +1,7 @@
 -- Which frames are refused: never a packed one, whatever a channel does to it, and only those that are not the frame of their own logical bits.
 -- Assumes nothing.
 use mathlib.Core.Path.{_≡_, refl, ap, ap₂, _∙_}
-use mathlib.Core.Bool.{Bool, true, false, cond, _&&_}
+use mathlib.Core.Bool.{Bool, true, false, not, _&&_}
 use mathlib.Core.List.{List, [], _∷_}
 use Prim.Native.Nat.{ℕ, _<_}
 use native.Mathlib.Omega.{arith}
@@ -9,6 +9,7 @@ use lib.Dec.{eqb, ltb, lit<}
 use lib.ListN.{length, getD}
 use borrow.Author.Tests.{eq-eqb, eqb-true}
 use Rattle.bits.specs.Bits.{_⊻_, ones}
+use Rattle.bits.specs.Refusals.{firstRefusal}
 use Rattle.bits.proofs.Cut.{length-cut}
 use Rattle.order.specs.Order.{Order, byteOf, frameOf, bitAt, logicalBit, padding, frameRefusal, through}
 use Rattle.order.proofs.Bytes.{place-bit}
@@ -17,13 +18,13 @@ use Rattle.order.proofs.Frames.{frame-length, frame-padding, frame-back
 -- seven bytes with clear padding are not refused
 pub taken : (bytes : List ℕ) → length bytes ≡ 7 → padding bytes ≡ false ∷ false ∷ [] → frameRefusal bytes ≡ 0
 taken bytes e p =
-    ap (λ (b : Bool). cond b (cond (eqb (ones (padding bytes)) 0) 0 3) 2) (eq-eqb (length bytes) 7 e) ∙ ap (λ (l : List Bool). cond (eqb (ones l) 0) 0 3) p
+    rw (eq-eqb (length bytes) 7 e) (ap (λ (l : List Bool). firstRefusal ((not (eqb (ones l) 0), 3) ∷ [])) p)
 
 -- no other is taken
 pub taken-only : (bytes : List ℕ) → frameRefusal bytes ≡ 0 → (length bytes ≡ 7) × (padding bytes ≡ false ∷ false ∷ [])
 taken-only bytes r = go (eqb (length bytes) 7) (bitAt bytes 54) (bitAt bytes 55) refl r
   where
-    go : (b x y : Bool) → eqb (length bytes) 7 ≡ b → _≡_ {A = ℕ} (cond b (cond (eqb (ones (x ∷ y ∷ [])) 0) 0 3) 2) 0
+    go : (b x y : Bool) → eqb (length bytes) 7 ≡ b → firstRefusal ((not b, 2) ∷ (not (eqb (ones (x ∷ y ∷ [])) 0), 3) ∷ []) ≡ 0
         → (length bytes ≡ 7) × (x ∷ y ∷ [] ≡ false ∷ false ∷ [])
     go true true true e r = absurd (omega arith)
     go true true false e r = absurd (omega arith)

@@ -1,3 +1,3 @@
 pub mod Order
-pub mod Word
+pub mod Fields
 pub mod Taking

@@ -2,11 +2,12 @@
 -- A frame's logical bits are a sequence, of which 0 to 53 count.
 use Prim.Native.Nat.{ℕ, zero, suc, _*_, _/_, _%_, _<_}
 use mathlib.Core.Path.{_≡_}
-use mathlib.Core.Bool.{Bool, false, cond, _&&_}
+use mathlib.Core.Bool.{Bool, false, not, cond, _&&_}
 use mathlib.Core.List.{List, [], _∷_}
 use lib.Dec.{eqb, ltb}
 use lib.ListN.{length, getD}
 use Rattle.bits.specs.Bits.{_⊻_, addOne, ones, value, bits, cut}
+use Rattle.bits.specs.Refusals.{Table, firstRefusal}
 
 -- how often a number stands in a list
 abbrev pub times : ℕ → List ℕ → ℕ
@@ -59,9 +60,13 @@ logicalBit ord bytes j = bitAt bytes (placeOf ord j)
 abbrev pub padding : List ℕ → List Bool
 padding bytes = cut (bitAt bytes) 54 2
 
--- the refusal of a frame, 0 is none: 2 where it is not seven bytes, then 3 where one of its last two bits is set
+-- what refuses a frame: it is not seven bytes; one of its last two bits is set
+abbrev pub frameTable : List ℕ → Table
+frameTable bytes = (not (eqb (length bytes) 7), 2) ∷ (not (eqb (ones (padding bytes)) 0), 3) ∷ []
+
+-- its refusal, 0 is none
 abbrev pub frameRefusal : List ℕ → ℕ
-frameRefusal bytes = cond (eqb (length bytes) 7) (cond (eqb (ones (padding bytes)) 0) 0 3) 2
+frameRefusal bytes = firstRefusal (frameTable bytes)
 
 -- the frame that a channel hands on: the places that fl names among 0 to 53 are changed, nothing else
 unfoldable pub through : (ℕ → Bool) → List ℕ → List ℕ

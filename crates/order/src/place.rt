@@ -2,53 +2,54 @@
 ghost use mathlib.Core.Path.{_≡_};
 ghost use Prim.Native.Nat.{_*_, _≤_, _<_};
 ghost use lib.ListN.{getD};
-ghost use Rattle.bits.specs.Bits.{bitNum, value, cut};
+ghost use Rattle.bits.specs.Bits.{bitNum, value, cut, carried};
 ghost use Rattle.order.specs.Order.{defaultOrder, placed, byteOf, frameOf};
-ghost use Rattle.order.specs.Word.{wordBit};
 
 // The logical bit that goes to place t; logical bit 0 is the most significant of the 54.
-fn placed_bit(word: u64, t: usize) -> u64
+fn placed_bit(bits: u64, t: usize) -> u64
     requires { ⌜ t < 54 ⌝ }
-    ensures { λ r. ⌜ (r ≡ bitNum (wordBit 54 word (getD defaultOrder t 0))) × (r ≤ 1) ⌝ }
+    ensures named { λ r. ⌜ r ≡ bitNum (carried 54 bits (getD defaultOrder t 0)) ⌝ }
+    ensures bound { λ r. ⌜ r ≤ 1 ⌝ }
 {
-    (word >> (53 - DEFAULT_ORDER[t])) % 2
+    (bits >> (53 - DEFAULT_ORDER[t])) % 2
 }
 
 // What stands at the six places from 6 × a on.
-fn six_places(word: u64, a: usize) -> u64
+fn six_places(bits: u64, a: usize) -> u64
     requires { ⌜ a < 9 ⌝ }
-    ensures { λ r. ⌜ (r ≡ value (cut (placed defaultOrder (wordBit 54 word)) (6 * a) 6)) × (r < 64) ⌝ }
+    ensures placed { λ r. ⌜ r ≡ value (cut (placed defaultOrder (carried 54 bits)) (6 * a) 6) ⌝ }
+    ensures bound { λ r. ⌜ r < 64 ⌝ }
 {
     let mut six: u64 = 0;
     for b in 0..6 {
-        six = six * 2 + placed_bit(word, 6 * a + b);
+        six = six * 2 + placed_bit(bits, 6 * a + b);
     }
     six
 }
 
 // The seven bytes of a number's low 56 bits, most significant first.
-fn seven_bytes(word: u64) -> [u8; 7]
-    ensures { λ r. ⌜ r ≡ cut (byteOf (wordBit 56 word)) 0 7 ⌝ }
+fn seven_bytes(bits: u64) -> [u8; 7]
+    ensures { λ r. ⌜ r ≡ cut (byteOf (carried 56 bits)) 0 7 ⌝ }
 {
     [
-        (word / 0x1000000000000 % 256) as u8,
-        (word / 0x10000000000 % 256) as u8,
-        (word / 0x100000000 % 256) as u8,
-        (word / 0x1000000 % 256) as u8,
-        (word / 0x10000 % 256) as u8,
-        (word / 0x100 % 256) as u8,
-        (word % 256) as u8,
+        (bits / 0x1000000000000 % 256) as u8,
+        (bits / 0x10000000000 % 256) as u8,
+        (bits / 0x100000000 % 256) as u8,
+        (bits / 0x1000000 % 256) as u8,
+        (bits / 0x10000 % 256) as u8,
+        (bits / 0x100 % 256) as u8,
+        (bits % 256) as u8,
     ]
 }
 
 // The frame of the logical bits in the low 54 bits of a number. The places are filled six at a time: so short a loop is unrolled,
 // and then each shift is a constant.
-pub fn place_bits(word: u64) -> [u8; 7]
-    ensures { λ r. ⌜ r ≡ frameOf defaultOrder (wordBit 54 word) ⌝ }
+pub fn place_bits(bits: u64) -> [u8; 7]
+    ensures { λ r. ⌜ r ≡ frameOf defaultOrder (carried 54 bits) ⌝ }
 {
     let mut placed: u64 = 0;
     for a in 0..9 {
-        placed = placed * 64 + six_places(word, a);
+        placed = placed * 64 + six_places(bits, a);
     }
     seven_bytes(placed * 4)
 }

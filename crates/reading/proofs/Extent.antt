@@ -14,7 +14,8 @@ use Rattle.pitch.specs.declared.PitchClass.the-variants as class
 use Rattle.hamming.specs.Word.{decode}
 use Rattle.hamming.specs.declared.Decoded.{Decoded}
 use Rattle.hamming.specs.declared.Decoded.the-variants as word
-use Rattle.reading.specs.Reads.{pitchBits, indicesOf, voicingOf, pitchRepaired, fromWords, byClass, read}
+use Rattle.order.specs.Fields.{pitchBits}
+use Rattle.reading.specs.Reading.{indicesOf, voicingOf, pitchRepaired, fromWords, byClass, read}
 use Rattle.sets.specs.declared.ParameterSet.the-variants.{Unvoiced, Voiced}
 use Rattle.reading.specs.declared.Reading.the-variants.{Accepted}
 

@@ -1,4 +1,4 @@
-pub mod Cuts
-pub mod Joined
+pub mod Shifts
+pub mod Outcomes
 pub mod Extent
-pub mod Fits
+pub mod Ranges

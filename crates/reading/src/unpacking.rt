@@ -11,29 +11,37 @@ use hamming::decode;
 use pitch::PitchClass;
 use sets::ParameterSet;
 ghost use mathlib.Core.Path.{_≡_};
-ghost use Rattle.bits.specs.Bits.{cut};
-ghost use Rattle.hamming.specs.Word.{decode};
-ghost use Rattle.order.specs.Word.{wordBit};
+ghost use Rattle.bits.specs.Bits.{carried};
+ghost use Prim.Native.Nat.{_+_, _≤_};
+ghost use Rattle.hamming.specs.Word.{Bounded};
+ghost use Rattle.order.specs.Fields.{pitchBits};
 ghost use Rattle.pitch.specs.declared.PitchClass.the-variants as class;
-ghost use Rattle.reading.specs.Reads.{fromWords, byClass, read};
+ghost use Rattle.reading.specs.Reading.{pitchRepaired, fromWords, byClass, read};
 
 // A voiced frame: the bits as they stand.
-fn voiced(word: u64, pitch: u8) -> Reading
-    ensures { λ r. ⌜ r ≡ byClass (wordBit 54 word) (class.Voiced pitch) ⌝ }
+fn voiced(bits: u64, pitch: u8) -> Reading
+    ensures { λ r. ⌜ r ≡ byClass (carried 54 bits) (class.Voiced pitch) ⌝ }
 {
-    let a = part(word, 0, 4);
-    let b = part(word, 8, 3);
-    let c = part(word, 14, 4);
-    let d = part(word, 21, 4);
-    let set = ParameterSet::Voiced(indices(word, a, b, c, d), voicing(word, pitch));
+    let a = part(bits, 0, 4);
+    let b = part(bits, 8, 3);
+    let c = part(bits, 14, 4);
+    let d = part(bits, 21, 4);
+    let set = ParameterSet::Voiced(indices(bits, a, b, c, d), voicing(bits, pitch));
     Reading::Accepted(set, 0)
 }
 
-// An unvoiced frame, from what its four words are read as.
-fn from_words(word: u64, a: Decoded, b: Decoded, c: Decoded, d: Decoded) -> Reading
-    requires { ⌜ (a ≡ decode 8 (cut (wordBit 54 word) 0 8)) × (b ≡ decode 6 (cut (wordBit 54 word) 8 6)) ⌝ }
-    requires { ⌜ (c ≡ decode 7 (cut (wordBit 54 word) 14 7)) × (d ≡ decode 7 (cut (wordBit 54 word) 21 7)) ⌝ }
-    ensures { λ r. ⌜ r ≡ fromWords (wordBit 54 word) a b c d ⌝ }
+// The repaired count of an unvoiced frame: that of its pitch code, and those of its words.
+fn repaired_in(bits: u64, i: u8, j: u8, k: u8, l: u8) -> u8
+    requires { ⌜ i + j + k + l ≤ 4 ⌝ }
+    ensures { λ r. ⌜ r ≡ pitchRepaired (pitchBits (carried 54 bits)) + i + j + k + l ⌝ }
+{
+    pitch_repaired(part(bits, 28, 7)) + i + j + k + l
+}
+
+// An unvoiced frame, from the outcomes of its four words, however they were chosen.
+fn from_words(bits: u64, a: Decoded, b: Decoded, c: Decoded, d: Decoded) -> Reading
+    requires { ⌜ Bounded 8 a × Bounded 6 b × Bounded 7 c × Bounded 7 d ⌝ }
+    ensures { λ r. ⌜ r ≡ fromWords (carried 54 bits) a b c d ⌝ }
 {
     let Decoded::Read(ua, i) = a else {
         return Reading::Erased;
@@ -47,30 +55,29 @@ fn from_words(word: u64, a: Decoded, b: Decoded, c: Decoded, d: Decoded) -> Read
     let Decoded::Read(ud, l) = d else {
         return Reading::Erased;
     };
-    let repaired = pitch_repaired(part(word, 28, 7)) + i + j + k + l;
-    let set = ParameterSet::Unvoiced(indices(word, ua, ub, uc, ud));
-    Reading::Accepted(set, repaired)
+    let set = ParameterSet::Unvoiced(indices(bits, ua, ub, uc, ud));
+    Reading::Accepted(set, repaired_in(bits, i, j, k, l))
 }
 
 // An unvoiced frame: each word is checked and repaired.
-fn unvoiced(word: u64) -> Reading
-    ensures { λ r. ⌜ r ≡ byClass (wordBit 54 word) class.Unvoiced ⌝ }
+fn unvoiced(bits: u64) -> Reading
+    ensures { λ r. ⌜ r ≡ byClass (carried 54 bits) class.Unvoiced ⌝ }
 {
-    let a = decode(WordLength::Eight, part(word, 0, 8));
-    let b = decode(WordLength::Six, part(word, 8, 6));
-    let c = decode(WordLength::Seven, part(word, 14, 7));
-    let d = decode(WordLength::Seven, part(word, 21, 7));
-    from_words(word, a, b, c, d)
+    let a = decode(WordLength::Eight, part(bits, 0, 8));
+    let b = decode(WordLength::Six, part(bits, 8, 6));
+    let c = decode(WordLength::Seven, part(bits, 14, 7));
+    let d = decode(WordLength::Seven, part(bits, 21, 7));
+    from_words(bits, a, b, c, d)
 }
 
 // What the logical bits in the low 54 bits of a number are read as.
-pub fn read(word: u64) -> Reading
-    ensures { λ r. ⌜ r ≡ read (wordBit 54 word) ⌝ }
+pub fn read(bits: u64) -> Reading
+    ensures { λ r. ⌜ r ≡ read (carried 54 bits) ⌝ }
 {
-    let class = class_of(part(word, 28, 7));
+    let class = class_of(part(bits, 28, 7));
     match class {
-        PitchClass::Unvoiced => unvoiced(word),
+        PitchClass::Unvoiced => unvoiced(bits),
         PitchClass::Erased => Reading::Erased,
-        PitchClass::Voiced(pitch) => voiced(word, pitch),
+        PitchClass::Voiced(pitch) => voiced(bits, pitch),
     }
 }

@@ -4,25 +4,24 @@ use mathlib.Core.Bool.{Bool}
 use Prim.Native.Nat.{ℕ, _+_, _*_, _-_, _^_, _≤_, _<_}
 use native.Mathlib.Omega.{arith}
 use borrow.Author.Needs.{needs}
-use Rattle.bits.specs.Bits.{value, cut}
+use Rattle.bits.specs.Bits.{carried}
 use Rattle.order.specs.Order.{defaultOrder, placed, frameOf}
-use Rattle.order.specs.Word.{wordBit}
-use Rattle.order.proofs.Words.{group-more, gather-lt, gathered}
+use Rattle.order.proofs.Gathering.{Gathered, gathered-none, gathered-group, gathered-all, placed-bytes}
 use Rattle.order.proofs.place.place_bits.Statement.{statement}
 use Rattle.order.proofs.place.place_bits.Tie as tie
 
 -- what stands at each place
 abbrev at : ℕ → ℕ → Bool
-at word = placed defaultOrder (wordBit 54 word)
+at n = placed defaultOrder (carried 54 n)
 
 abbrev Inv-loop : tie.InvT-loop
-Inv-loop word x₀ a₀ x a = (a ≤ 9) × (x ≡ value (cut (at word) 0 (6 * a))) × (x < 2 ^ 54)
+Inv-loop n x₀ a₀ x a = Gathered (at n) 54 0 (6 * a) x
 
 abbrev μ-loop : tie.MeasureT-loop
-μ-loop word x₀ a₀ x a = 9 - a
+μ-loop n x₀ a₀ x a = 9 - a
 
 loop-holds : tie.Need-loop-holds Inv-loop μ-loop
-loop-holds c = (search needs, refl, search needs)
+loop-holds c = gathered-none (at (c .args .bits)) 54 0
 
 mul-placed : tie.Need-mul-placed Inv-loop μ-loop
 mul-placed c = omega arith
@@ -42,10 +41,7 @@ loop-less c = omega arith
 loop-again : tie.Need-loop-again Inv-loop μ-loop
 loop-again c =
     let L = c .before .before .loop in
-    let h = at (c .before .before .before .args .word) in
-    let six = c .six-places .result in
-    let more = group-more h 6 (L .a) (L .placed) six (L .inv .1) (c .six-places .ensures .0) in
-    (omega arith, more, gather-lt h 0 (6 * (L .a + 1)) 54 (L .placed * 64 + six) (omega arith) more)
+    gathered-group (at (c .before .before .before .args .bits)) 54 6 (L .a) (L .placed) (c .six-places .result) (L .inv .1) (omega arith) (c .six-places .ensures .0)
 
 mul-seven-bytes : tie.Need-mul-seven-bytes Inv-loop μ-loop
 mul-seven-bytes c = omega arith
@@ -57,9 +53,8 @@ returns : tie.Need-returns Inv-loop μ-loop
 unfolding frameOf
 returns c =
     let L = c .before .before .loop in
-    let word = c .before .before .before .args .word in
-    let e : 6 * L .a ≡ 54 = omega arith in
-    c .seven-bytes .ensures ∙ gathered defaultOrder (wordBit 54 word) (L .placed) (L .inv .1 ∙ ap (λ (k : ℕ). value (cut (at word) 0 k)) e)
+    let n = c .before .before .before .args .bits in
+    c .seven-bytes .ensures ∙ placed-bytes defaultOrder (carried 54 n) (L .placed) (gathered-all (at n) 54 0 (6 * L .a) (L .placed) (omega arith) (L .inv .1))
 
 pub place-bits-spec : {M : Type 1} → statement M
 place-bits-spec =

@@ -5,12 +5,11 @@ use Prim.Native.Nat.{ℕ, suc, _-_, _/_, _%_, _^_, _<_}
 use native.Mathlib.Omega.{arith}
 use lib.ListN.{getD}
 use borrow.Author.Needs.{needs}
-use Rattle.bits.specs.Bits.{bitNum}
+use Rattle.bits.specs.Bits.{bitNum, carried}
+use Rattle.bits.proofs.Numbers.{carried-bit}
 use Rattle.order.specs.Order.{placeOf, orderBy, defaultOrder}
-use Rattle.order.specs.Word.{wordBit}
 use Rattle.order.proofs.Places.{entry-lt}
 use Rattle.order.proofs.Default.{default-order}
-use Rattle.order.proofs.Words.{word-bit}
 use Rattle.order.proofs.place.placed_bit.Statement.{statement}
 use Rattle.order.proofs.place.placed_bit.Tie as tie
 
@@ -41,12 +40,12 @@ shr-result c = search needs
 
 returns : tie.Need-returns
 returns c =
-    let word = c .args .word in
+    let n = c .args .bits in
     let t = c .args .t in
     let j = getD table t 0 in
     let e : 53 - j ≡ 54 - suc j = omega arith in (
-      ap (λ (k : ℕ). word / 2 ^ k % 2) e ∙ word-bit 54 word j (table-lt t (c .pre))
-          ∙ ap (λ (l : List ℕ). bitNum (wordBit 54 word (getD l t 0))) table-is,
+      ap (λ (k : ℕ). n / 2 ^ k % 2) e ∙ carried-bit 54 n j (table-lt t (c .pre))
+          ∙ ap (λ (l : List ℕ). bitNum (carried 54 n (getD l t 0))) table-is,
       search needs,
     )
 

@@ -4,26 +4,25 @@ use mathlib.Core.Bool.{Bool}
 use Prim.Native.Nat.{ℕ, _+_, _*_, _-_, _≤_, _<_}
 use native.Mathlib.Omega.{arith}
 use borrow.Author.Needs.{needs}
-use Rattle.bits.specs.Bits.{bitNum, value, cut}
+use Rattle.bits.specs.Bits.{bitNum, carried}
 use Rattle.order.specs.Order.{defaultOrder, placed}
-use Rattle.order.specs.Word.{wordBit}
-use Rattle.order.proofs.Words.{gather-more, gather-lt}
+use Rattle.order.proofs.Gathering.{Gathered, gathered-none, gathered-bit, gathered-all}
 use Rattle.order.proofs.Frames.{placed-below}
 use Rattle.order.proofs.place.six_places.Statement.{statement}
 use Rattle.order.proofs.place.six_places.Tie as tie
 
 -- what stands at each place
 abbrev at : ℕ → ℕ → Bool
-at word = placed defaultOrder (wordBit 54 word)
+at n = placed defaultOrder (carried 54 n)
 
 abbrev Inv-loop : tie.InvT-loop
-Inv-loop word a six₀ b₀ six b = (b ≤ 6) × (six ≡ value (cut (at word) (6 * a) b)) × (six < 64)
+Inv-loop n a six₀ b₀ six b = Gathered (at n) 6 (6 * a) b six
 
 abbrev μ-loop : tie.MeasureT-loop
-μ-loop word a six₀ b₀ six b = 6 - b
+μ-loop n a six₀ b₀ six b = 6 - b
 
 loop-holds : tie.Need-loop-holds Inv-loop μ-loop
-loop-holds c = (search needs, refl, search needs)
+loop-holds c = gathered-none (at (c .args .bits)) 6 (6 * c .args .a)
 
 mul-six : tie.Need-mul-six Inv-loop μ-loop
 mul-six c = omega arith
@@ -52,16 +51,14 @@ loop-again c =
     let args = c .before .before .before .args in
     let from : ℕ = 6 * args .a in
     let h : from + L .b < 54 = omega arith in
-    let bit = c .placed-bit .ensures .0 ∙ ap bitNum (sym (placed-below defaultOrder (wordBit 54 (args .word)) (from + L .b) h)) in
-    let more = gather-more (at (args .word)) from (L .b) (L .six) (c .placed-bit .result) (L .inv .1) bit in
-    (omega arith, more, gather-lt (at (args .word)) from (L .b + 1) 6 (L .six * 2 + c .placed-bit .result) (omega arith) more)
+    let bit = c .placed-bit .ensures .0 ∙ ap bitNum (sym (placed-below defaultOrder (carried 54 (args .bits)) (from + L .b) h)) in
+    gathered-bit (at (args .bits)) 6 from (L .b) (L .six) (c .placed-bit .result) (L .inv .1) (omega arith) bit
 
 returns : tie.Need-returns Inv-loop μ-loop
 returns c =
     let L = c .before .loop in
     let args = c .before .before .args in
-    let e : L .b ≡ 6 = omega arith in
-    (L .inv .1 ∙ ap (λ (k : ℕ). value (cut (at (args .word)) (6 * args .a) k)) e, L .inv .2)
+    (gathered-all (at (args .bits)) 6 (6 * args .a) (L .b) (L .six) (omega arith) (L .inv .1), L .inv .2)
 
 pub six-places-spec : {M : Type 1} → statement M
 six-places-spec =

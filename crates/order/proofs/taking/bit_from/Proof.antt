@@ -2,10 +2,9 @@
 use mathlib.Core.Path.{_≡_, sym, ap, _∙_}
 use Prim.Native.Nat.{ℕ, suc, _*_, _-_, _/_, _%_, _^_, _<_}
 use native.Mathlib.Omega.{arith}
-use Rattle.bits.specs.Bits.{bitNum}
-use Rattle.order.specs.Word.{wordBit}
+use Rattle.bits.specs.Bits.{bitNum, carried}
+use Rattle.bits.proofs.Numbers.{carried-bit}
 use Rattle.order.proofs.Default.{default-place}
-use Rattle.order.proofs.Words.{word-bit}
 use borrow.Author.Needs.{needs}
 use Rattle.order.proofs.taking.bit_from.Statement.{statement}
 use Rattle.order.proofs.taking.bit_from.Tie as tie
@@ -21,12 +20,12 @@ shr-result c = omega arith
 
 returns : tie.Need-returns
 returns c =
-    let word = c .args .placed in
+    let n = c .args .placed in
     let j = c .args .j in
     let t : ℕ = 7 * j % 54 in
     let h : t < 56 = omega arith in
     let e : 55 - t ≡ 56 - suc t = omega arith in (
-      ap (λ (k : ℕ). word / 2 ^ k % 2) e ∙ word-bit 56 word t h ∙ ap (λ (k : ℕ). bitNum (wordBit 56 word k)) (sym (default-place j (c .pre))),
+      ap (λ (k : ℕ). n / 2 ^ k % 2) e ∙ carried-bit 56 n t h ∙ ap (λ (k : ℕ). bitNum (carried 56 n k)) (sym (default-place j (c .pre))),
       search needs,
     )
 

@@ -4,34 +4,33 @@ use mathlib.Core.Bool.{Bool}
 use Prim.Native.Nat.{ℕ, _+_, _*_, _-_, _^_, _≤_, _<_}
 use native.Mathlib.Omega.{arith}
 use borrow.Author.Needs.{needs}
-use Rattle.bits.specs.Bits.{value, cut}
+use Rattle.bits.specs.Bits.{carried}
 use Rattle.order.specs.Order.{defaultOrder, placeOf}
-use Rattle.order.specs.Word.{wordBit}
-use Rattle.order.proofs.Words.{group-more, gather-lt}
+use Rattle.order.proofs.Gathering.{Gathered, gathered-none, gathered-group, gathered-all}
 use Rattle.order.proofs.taking.gather.Statement.{statement}
 use Rattle.order.proofs.taking.gather.Tie as tie
 
 -- each logical bit
 abbrev at : ℕ → ℕ → Bool
-at placed j = wordBit 56 placed (placeOf defaultOrder j)
+at n j = carried 56 n (placeOf defaultOrder j)
 
 abbrev Inv-loop : tie.InvT-loop
-Inv-loop placed x₀ a₀ x a = (a ≤ 9) × (x ≡ value (cut (at placed) 0 (6 * a))) × (x < 2 ^ 54)
+Inv-loop n x₀ a₀ x a = Gathered (at n) 54 0 (6 * a) x
 
 abbrev μ-loop : tie.MeasureT-loop
-μ-loop placed x₀ a₀ x a = 9 - a
+μ-loop n x₀ a₀ x a = 9 - a
 
 loop-holds : tie.Need-loop-holds Inv-loop μ-loop
-loop-holds c = (search needs, refl, search needs)
+loop-holds c = gathered-none (at (c .args .placed)) 54 0
 
-mul-word : tie.Need-mul-word Inv-loop μ-loop
-mul-word c = omega arith
+mul-bits : tie.Need-mul-bits Inv-loop μ-loop
+mul-bits c = omega arith
 
 six-from-requires : tie.Need-six-from-requires Inv-loop μ-loop
 six-from-requires c κs = omega arith
 
-add-word : tie.Need-add-word Inv-loop μ-loop
-add-word c = omega arith
+add-bits : tie.Need-add-bits Inv-loop μ-loop
+add-bits c = omega arith
 
 add-a : tie.Need-add-a Inv-loop μ-loop
 add-a c = omega arith
@@ -42,16 +41,12 @@ loop-less c = omega arith
 loop-again : tie.Need-loop-again Inv-loop μ-loop
 loop-again c =
     let L = c .before .before .loop in
-    let h = at (c .before .before .before .args .placed) in
-    let six = c .six-from .result in
-    let more = group-more h 6 (L .a) (L .word) six (L .inv .1) (c .six-from .ensures .0) in
-    (omega arith, more, gather-lt h 0 (6 * (L .a + 1)) 54 (L .word * 64 + six) (omega arith) more)
+    gathered-group (at (c .before .before .before .args .placed)) 54 6 (L .a) (L .bits) (c .six-from .result) (L .inv .1) (omega arith) (c .six-from .ensures .0)
 
 returns : tie.Need-returns Inv-loop μ-loop
 returns c =
     let L = c .before .loop in
-    let e : 6 * L .a ≡ 54 = omega arith in
-    L .inv .1 ∙ ap (λ (k : ℕ). value (cut (at (c .before .before .args .placed)) 0 k)) e
+    gathered-all (at (c .before .before .args .placed)) 54 0 (6 * L .a) (L .bits) (omega arith) (L .inv .1)
 
 pub gather-spec : {M : Type 1} → statement M
-gather-spec = tie.close (tie.spec Inv-loop μ-loop loop-holds mul-word six-from-requires add-word add-a loop-less loop-again returns)
+gather-spec = tie.close (tie.spec Inv-loop μ-loop loop-holds mul-bits six-from-requires add-bits add-a loop-less loop-again returns)

@@ -15,8 +15,8 @@ shared-slice-read-if2 c = search needs
 returns-2 : tie.Need-returns-2
 returns-2 c = padding-owes (c .before .before .before .before .args .frame .now) (c .before .before .if1 .left) (c .if2 .taken)
 
-placed-word-requires : tie.Need-placed-word-requires
-placed-word-requires c κs = search needs
+placed-bits-requires : tie.Need-placed-bits-requires
+placed-bits-requires c κs = search needs
 
 gather-requires : tie.Need-gather-requires
 gather-requires c κs = search needs
@@ -26,8 +26,8 @@ returns-3 c =
     let clear = c .before .before in
     let bytes = clear .before .before .before .before .args .frame .now in
     bits-owes bytes (clear .before .before .if1 .left) (clear .if2 .left) (c .gather .result)
-    (c .gather .ensures ∙ ap value (logical-is bytes (c .before .placed-word .result) (c .before .placed-word .ensures)))
+    (c .gather .ensures ∙ ap value (logical-is bytes (c .before .placed-bits .result) (c .before .placed-bits .ensures)))
 
 pub logical-bits-spec : {M : Type 1} → statement M
 logical-bits-spec =
-    tie.close (tie.spec returns shared-slice-read-if2 returns-2 placed-word-requires gather-requires returns-3)
+    tie.close (tie.spec returns shared-slice-read-if2 returns-2 placed-bits-requires gather-requires returns-3)

@@ -4,25 +4,24 @@ use mathlib.Core.Bool.{Bool}
 use Prim.Native.Nat.{ℕ, _+_, _*_, _-_, _≤_, _<_}
 use native.Mathlib.Omega.{arith}
 use borrow.Author.Needs.{needs}
-use Rattle.bits.specs.Bits.{value, cut}
+use Rattle.bits.specs.Bits.{carried}
 use Rattle.order.specs.Order.{defaultOrder, placeOf}
-use Rattle.order.specs.Word.{wordBit}
-use Rattle.order.proofs.Words.{gather-more, gather-lt}
+use Rattle.order.proofs.Gathering.{Gathered, gathered-none, gathered-bit, gathered-all}
 use Rattle.order.proofs.taking.six_from.Statement.{statement}
 use Rattle.order.proofs.taking.six_from.Tie as tie
 
 -- each logical bit
 abbrev at : ℕ → ℕ → Bool
-at placed j = wordBit 56 placed (placeOf defaultOrder j)
+at n j = carried 56 n (placeOf defaultOrder j)
 
 abbrev Inv-loop : tie.InvT-loop
-Inv-loop placed a six₀ b₀ six b = (b ≤ 6) × (six ≡ value (cut (at placed) (6 * a) b)) × (six < 64)
+Inv-loop n a six₀ b₀ six b = Gathered (at n) 6 (6 * a) b six
 
 abbrev μ-loop : tie.MeasureT-loop
-μ-loop placed a six₀ b₀ six b = 6 - b
+μ-loop n a six₀ b₀ six b = 6 - b
 
 loop-holds : tie.Need-loop-holds Inv-loop μ-loop
-loop-holds c = (search needs, refl, search needs)
+loop-holds c = gathered-none (at (c .args .placed)) 6 (6 * c .args .a)
 
 mul-six : tie.Need-mul-six Inv-loop μ-loop
 mul-six c = omega arith
@@ -49,16 +48,13 @@ loop-again : tie.Need-loop-again Inv-loop μ-loop
 loop-again c =
     let L = c .before .before .loop in
     let args = c .before .before .before .args in
-    let from : ℕ = 6 * args .a in
-    let more = gather-more (at (args .placed)) from (L .b) (L .six) (c .bit-from .result) (L .inv .1) (c .bit-from .ensures .0) in
-    (omega arith, more, gather-lt (at (args .placed)) from (L .b + 1) 6 (L .six * 2 + c .bit-from .result) (omega arith) more)
+    gathered-bit (at (args .placed)) 6 (6 * args .a) (L .b) (L .six) (c .bit-from .result) (L .inv .1) (omega arith) (c .bit-from .ensures .0)
 
 returns : tie.Need-returns Inv-loop μ-loop
 returns c =
     let L = c .before .loop in
     let args = c .before .before .args in
-    let e : L .b ≡ 6 = omega arith in
-    (L .inv .1 ∙ ap (λ (k : ℕ). value (cut (at (args .placed)) (6 * args .a) k)) e, L .inv .2)
+    (gathered-all (at (args .placed)) 6 (6 * args .a) (L .b) (L .six) (omega arith) (L .inv .1), L .inv .2)
 
 pub six-from-spec : {M : Type 1} → statement M
 six-from-spec =

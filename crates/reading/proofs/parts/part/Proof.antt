@@ -4,7 +4,7 @@ use Prim.Native.Nat.{ℕ, _+_, _*_, _-_, _/_, _%_, _^_, _≤_, _<_}
 use native.Mathlib.Nat.{mod-lt}
 use native.Mathlib.Omega.{arith}
 use lib.Pow.{pow-pos, pow-mono}
-use Rattle.reading.proofs.Cuts.{weight, part-is}
+use Rattle.reading.proofs.Shifts.{weight, part-is}
 use Rattle.reading.proofs.parts.part.Statement.{statement}
 use Rattle.reading.proofs.parts.part.Tie as tie
 
@@ -35,14 +35,14 @@ cast-result : tie.Need-cast-result
 cast-result c =
     let a = c .args in
     let m : 2 ^ a .count ≤ 2 ^ 8 = pow-mono (c .pre .1) in
-    omega (arith, m, rest-lt c (a .word / 2 ^ (54 - a .first - a .count)))
+    omega (arith, m, rest-lt c (a .bits / 2 ^ (54 - a .first - a .count)))
 
 returns : tie.Need-returns
 returns c =
     let a = c .args in
     let low : ℕ = 54 - a .first - a .count in
     let e : a .first + (a .count + low) ≡ 54 = omega arith in
-    (ap (λ (m : ℕ). a .word / 2 ^ low % m) (divisor c) ∙ part-is (a .first) (a .count) low (a .word) e, rest-lt c (a .word / 2 ^ low))
+    (ap (λ (m : ℕ). a .bits / 2 ^ low % m) (divisor c) ∙ part-is (a .first) (a .count) low (a .bits) e, rest-lt c (a .bits / 2 ^ low))
 
 pub part-spec : {M : Type 1} → statement M
 part-spec = tie.close (tie.spec sub-result sub-result-2 shr-result shl-result rem-result cast-result returns)

@@ -1,20 +1,18 @@
 -- `reading::unpacking::from_words` meets its contract: an erased word erases the frame, else the data and the repaired counts are within bounds.
 -- Assumes nothing.
-use mathlib.Core.Path.{sym, ap, _∙_}
+use mathlib.Core.Path.{sym}
 use mathlib.Core.Bool.{Bool}
 use Prim.Native.Nat.{ℕ}
-use native.Mathlib.Omega.{arith}
-use Rattle.order.specs.Word.{wordBit}
-use Rattle.reading.specs.Reads.{pitchRepaired, fromWords}
-use Rattle.reading.proofs.Cuts.{bits-back}
-use Rattle.reading.proofs.Joined.{Bounds, words-bounds, words-read}
+use Rattle.bits.specs.Bits.{carried}
+use Rattle.reading.specs.Reading.{fromWords}
+use Rattle.reading.proofs.Outcomes.{Bounds, outcomes-bounds, outcomes-read}
 use borrow.Author.Needs.{needs}
 use Rattle.reading.proofs.unpacking.from_words.Statement.{statement}
 use Rattle.reading.proofs.unpacking.from_words.Tie as tie
 
 -- the logical bits
 abbrev bit : tie.Start → ℕ → Bool
-bit s = wordBit 54 (s .args .word)
+bit s = carried 54 (s .args .bits)
 
 -- all four words read: where each of the first three is, and their bounds
 module _ (c : tie.After-d) where
@@ -33,8 +31,8 @@ module _ (c : tie.After-d) where
   bounds : Bounds (word-a .a .given .0 .0) (word-b .b .given .0 .0) (word-c .c .given .0 .0) (c .d .given .0 .0)
       (word-a .a .given .0 .1 .0) (word-b .b .given .0 .1 .0) (word-c .c .given .0 .1 .0) (c .d .given .0 .1 .0)
   bounds =
-      words-bounds (bit start) (start .args .a) (start .args .b) (start .args .c) (start .args .d) _ _ _ _ _ _ _ _
-      (word-a .a .given .1) (word-b .b .given .1) (word-c .c .given .1) (c .d .given .1) (start .pre .0) (start .pre .1)
+      outcomes-bounds (start .args .a) (start .args .b) (start .args .c) (start .args .d) _ _ _ _ _ _ _ _
+      (word-a .a .given .1) (word-b .b .given .1) (word-c .c .given .1) (c .d .given .1) (start .pre)
 
 enum-known-a : tie.Need-enum-known-a
 enum-known-a c = search needs
@@ -86,38 +84,21 @@ returns-4 c i =
     let s = a .before .before in
     fromWords (bit s) (sym (a .a .given .1) i) (sym (b .b .given .1) i) (sym (x .c .given .1) i) (sym (c .enum-told4 .given .1) i)
 
-part-requires : tie.Need-part-requires
-part-requires c κs = search needs
-
-pitch-repaired-requires : tie.Need-pitch-repaired-requires
-pitch-repaired-requires c κs = search needs
-
-add-repaired : tie.Need-add-repaired
-add-repaired c = omega (arith, bounds (c .before .before .before) .1)
-
-add-repaired-2 : tie.Need-add-repaired-2
-add-repaired-2 c = omega (arith, bounds (c .before .before .before) .1)
-
-add-repaired-3 : tie.Need-add-repaired-3
-add-repaired-3 c = omega (arith, bounds (c .before .before .before) .1)
-
-add-repaired-4 : tie.Need-add-repaired-4
-add-repaired-4 c = omega (arith, bounds (c .before .before .before) .1)
-
 indices-requires : tie.Need-indices-requires
-indices-requires c κs = bounds (c .before .before .before) .0
+indices-requires c κs = bounds (c .before) .0
+
+repaired-in-requires : tie.Need-repaired-in-requires
+repaired-in-requires c κs = bounds (c .before .before) .1
 
 returns-5 : tie.Need-returns-5
 returns-5 c =
-    let p = c .before .before in
-    let d = p .before .before in
+    let d = c .before .before .before in
     let s = start d in
-    words-read (bit s) (s .args .a) (s .args .b) (s .args .c) (s .args .d) _ _ _ _ _ _ _ _
-    (word-a d .a .given .1) (word-b d .b .given .1) (word-c d .c .given .1) (d .d .given .1) _ _ (c .indices .ensures)
-    (c .before .pitch-repaired .ensures .0 ∙ ap pitchRepaired (bits-back (bit s) 28 7 _ (p .part .ensures .0)))
+    outcomes-read (s .args .a) (s .args .b) (s .args .c) (s .args .d) _ _ _ _ _ _ _ _
+    (word-a d .a .given .1) (word-b d .b .given .1) (word-c d .c .given .1) (d .d .given .1) (bit s) _ _ (c .before .indices .ensures) (c .repaired-in .ensures)
 
 pub from-words-spec : {M : Type 1} → statement M
 from-words-spec =
     tie.close
     (tie.spec enum-known-a enum-told returns enum-known-b enum-told-2 returns-2 enum-known-c enum-told-3 returns-3 enum-known-d enum-told-4
-    returns-4 part-requires pitch-repaired-requires add-repaired add-repaired-2 add-repaired-3 add-repaired-4 indices-requires returns-5)
+    returns-4 indices-requires repaired-in-requires returns-5)

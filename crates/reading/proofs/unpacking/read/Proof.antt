@@ -3,9 +3,9 @@ use mathlib.Core.Path.{_≡_, sym, ap, _∙_}
 use Prim.Native.Nat.{ℕ}
 use Rattle.pitch.specs.Pitch.{classOf}
 use Rattle.pitch.specs.declared.PitchClass.{PitchClass}
-use Rattle.order.specs.Word.{wordBit}
-use Rattle.reading.specs.Reads.{byClass, read}
-use Rattle.reading.proofs.Cuts.{bits-back}
+use Rattle.bits.specs.Bits.{carried}
+use Rattle.reading.specs.Reading.{byClass, read}
+use Rattle.reading.proofs.Shifts.{bits-back}
 use borrow.Author.Needs.{needs}
 use Rattle.reading.proofs.unpacking.read.Statement.{statement}
 use Rattle.reading.proofs.unpacking.read.Tie as tie
@@ -31,14 +31,14 @@ enum-known-class c = search needs
 voiced-requires : tie.Need-voiced-requires
 voiced-requires c κs = search needs
 
-abbrev word : tie.After-class-of → ℕ
-word c = c .before .before .args .word
+abbrev given : tie.After-class-of → ℕ
+given c = c .before .before .args .bits
 
 -- the class that the call gives is that of the pitch bits
-by-class : (c : tie.After-class-of) (k : PitchClass) → c .class-of .result ≡ k → byClass (wordBit 54 (word c)) k ≡ read (wordBit 54 (word c))
+by-class : (c : tie.After-class-of) (k : PitchClass) → c .class-of .result ≡ k → byClass (carried 54 (given c)) k ≡ read (carried 54 (given c))
 unfolding read
 by-class c k e =
-    let g = wordBit 54 (word c) in
+    let g = carried 54 (given c) in
     ap (byClass g) (sym e ∙ c .class-of .ensures ∙ ap classOf (bits-back g 28 7 _ (c .before .part .ensures .0)))
 
 returns : tie.Need-returns

@@ -1,11 +1,16 @@
 -- `reading::unpacking::unvoiced` meets its contract: each word is decoded from its bits. Assumes nothing.
-use mathlib.Core.Path.{_≡_, ap, _∙_}
+use mathlib.Core.Path.{_≡_, refl, ap, _∙_, subst⁻¹}
+use mathlib.Core.Bool.{Bool}
+use mathlib.Core.List.{List}
 use Prim.Native.Nat.{ℕ}
-use Rattle.bits.specs.Bits.{cut}
-use Rattle.hamming.specs.Word.{decode}
-use Rattle.order.specs.Word.{wordBit}
-use Rattle.reading.specs.Reads.{fromWords}
-use Rattle.reading.proofs.Cuts.{bits-back}
+use lib.ListN.{length}
+use Rattle.hamming.specs.Word.{decode, Bounded}
+use Rattle.hamming.specs.declared.Decoded.{Decoded}
+use Rattle.hamming.proofs.Bounds.{decode-bounded}
+use Rattle.order.specs.Fields.{wordA, wordB, wordC, wordD}
+use Rattle.bits.specs.Bits.{carried}
+use Rattle.reading.specs.Reading.{fromWords}
+use Rattle.reading.proofs.Shifts.{bits-back}
 use borrow.Author.Needs.{needs}
 use Rattle.reading.proofs.unpacking.unvoiced.Statement.{statement}
 use Rattle.reading.proofs.unpacking.unvoiced.Tie as tie
@@ -34,36 +39,48 @@ part-requires-4 c κs = search needs
 decode-requires-4 : tie.Need-decode-requires-4
 decode-requires-4 c κs = search needs
 
--- what each call gives is what its word is read as
-module _ (c : tie.After-decode4) where
-  abbrev word : ℕ
-  word = c .before .before .before .before .before .before .before .before .args .word
+-- the four calls, and that each gives what its word is read as
+module _ (at-d : tie.After-decode4) where
+  abbrev at-c : tie.After-decode3
+  at-c = at-d .before .before
 
-  read-d : c .decode4 .result ≡ decode 7 (cut (wordBit 54 word) 21 7)
-  read-d = c .decode4 .ensures ∙ ap (decode 7) (bits-back (wordBit 54 word) 21 7 _ (c .before .part4 .ensures .0))
+  abbrev at-b : tie.After-decode2
+  at-b = at-c .before .before
 
-  read-c : c .before .before .decode3 .result ≡ decode 7 (cut (wordBit 54 word) 14 7)
-  read-c =
-      let r = c .before .before in
-      r .decode3 .ensures ∙ ap (decode 7) (bits-back (wordBit 54 word) 14 7 _ (r .before .part3 .ensures .0))
+  abbrev at-a : tie.After-decode
+  at-a = at-b .before .before
 
-  read-b : c .before .before .before .before .decode2 .result ≡ decode 6 (cut (wordBit 54 word) 8 6)
-  read-b =
-      let r = c .before .before .before .before in
-      r .decode2 .ensures ∙ ap (decode 6) (bits-back (wordBit 54 word) 8 6 _ (r .before .part2 .ensures .0))
+  abbrev g : ℕ → Bool
+  g = carried 54 (at-a .before .before .args .bits)
 
-  read-a : c .before .before .before .before .before .before .decode .result ≡ decode 8 (cut (wordBit 54 word) 0 8)
-  read-a =
-      let r = c .before .before .before .before .before .before in
-      r .decode .ensures ∙ ap (decode 8) (bits-back (wordBit 54 word) 0 8 _ (r .before .part .ensures .0))
+  read-a : at-a .decode .result ≡ decode 8 (wordA g)
+  read-a = at-a .decode .ensures ∙ ap (decode 8) (bits-back g 0 8 _ (at-a .before .part .ensures .0))
+
+  read-b : at-b .decode2 .result ≡ decode 6 (wordB g)
+  read-b = at-b .decode2 .ensures ∙ ap (decode 6) (bits-back g 8 6 _ (at-b .before .part2 .ensures .0))
+
+  read-c : at-c .decode3 .result ≡ decode 7 (wordC g)
+  read-c = at-c .decode3 .ensures ∙ ap (decode 7) (bits-back g 14 7 _ (at-c .before .part3 .ensures .0))
+
+  read-d : at-d .decode4 .result ≡ decode 7 (wordD g)
+  read-d = at-d .decode4 .ensures ∙ ap (decode 7) (bits-back g 21 7 _ (at-d .before .part4 .ensures .0))
+
+-- an outcome that a word is read as fits it
+fits : (n : ℕ) (w : List Bool) (r : Decoded) → length w ≡ n → r ≡ decode n w → Bounded n r
+fits n w r h e = subst⁻¹ (Bounded n) e (decode-bounded n w h)
 
 from-words-requires : tie.Need-from-words-requires
-from-words-requires c κs = ((read-a c, read-b c), (read-c c, read-d c))
+from-words-requires c κs = (
+  fits 8 (wordA (g c)) _ refl (read-a c),
+  fits 6 (wordB (g c)) _ refl (read-b c),
+  fits 7 (wordC (g c)) _ refl (read-c c),
+  fits 7 (wordD (g c)) _ refl (read-d c),
+)
 
 returns : tie.Need-returns
 returns c =
-    c .from-words .ensures
-    ∙ (λ i. fromWords (wordBit 54 (word (c .before))) (read-a (c .before) i) (read-b (c .before) i) (read-c (c .before) i) (read-d (c .before) i))
+    let d = c .before in
+    c .from-words .ensures ∙ (λ i. fromWords (g d) (read-a d i) (read-b d i) (read-c d i) (read-d d i))
 
 pub unvoiced-spec : {M : Type 1} → statement M
 unvoiced-spec =

@@ -3,13 +3,15 @@ use Prim.Native.Nat.{ℕ, _+_, _*_, _/_, _%_}
 use mathlib.Core.Bool.{Bool, true, cond}
 use mathlib.Core.List.{List, _++_}
 use lib.Dec.{eqb}
-use Rattle.bits.specs.Bits.{ones, value, cut}
+use lib.ListN.{take, drop}
+use Rattle.bits.specs.Bits.{ones, value}
 use Rattle.pitch.specs.Pitch.{classOf}
 use Rattle.pitch.specs.declared.PitchClass.{PitchClass}
 use Rattle.pitch.specs.declared.PitchClass.the-variants as class
-use Rattle.hamming.specs.Word.{decode}
+use Rattle.hamming.specs.Word.{dataBits, dataOf, decode}
 use Rattle.hamming.specs.declared.Decoded.{Decoded}
 use Rattle.hamming.specs.declared.Decoded.the-variants as word
+use Rattle.order.specs.Fields.{wordA, wordB, wordC, wordD, pitchBits, l2Bits, l3Bits, l4Bits}
 use Rattle.sets.specs.Sets.{inRange}
 use Rattle.sets.specs.declared.Indices.{Indices}
 use Rattle.sets.specs.declared.Voicing.{Voicing}
@@ -17,37 +19,33 @@ use Rattle.sets.specs.declared.ParameterSet.the-variants.{Unvoiced, Voiced}
 use Rattle.reading.specs.declared.Reading.{Reading}
 use Rattle.reading.specs.declared.Reading.the-variants.{Accepted, Erased}
 
--- the pitch code's seven bits
-abbrev pub pitchBits : (ℕ → Bool) → List Bool
-pitchBits g = cut g 28 7
-
--- the bits of the four words of document 01's "The four words": of each the data, then the parity places
-abbrev pub wordA : (ℕ → Bool) → List Bool
-wordA g = cut g 0 8
-
-abbrev pub wordB : (ℕ → Bool) → List Bool
-wordB g = cut g 8 6
-
-abbrev pub wordC : (ℕ → Bool) → List Bool
-wordC g = cut g 14 7
-
-abbrev pub wordD : (ℕ → Bool) → List Bool
-wordD g = cut g 21 7
-
 -- the six indices from the data of the four words, u0 most significant, and the other bits
 abbrev pub indicesOf : (ℕ → Bool) → ℕ → ℕ → ℕ → ℕ → Indices
 indicesOf g a b c d = record {
   l1 = a * 8 + b;
-  l2 = value (cut g 35 6);
-  l3 = value (cut g 41 6);
-  l4 = value (cut g 47 6);
+  l2 = value (l2Bits g);
+  l3 = value (l3Bits g);
+  l4 = value (l4Bits g);
   g2 = c * 2 + d / 8;
   g1 = d % 8;
 }
 
--- the four of a voiced set, from the parity places and the pitch index
+-- the data of a word of n bits as received, nothing repaired
+abbrev pub asReceived : ℕ → List Bool → ℕ
+asReceived n w = value (dataOf n w)
+
+-- what stands in the parity places of a word of n bits
+abbrev pub parityPlaces : ℕ → List Bool → List Bool
+parityPlaces n w = drop (dataBits n) w
+
+-- the four of a voiced set: the bandpass bits in A, the Fourier index in B, C and D, the aperiodic flag last in D; and the pitch index
 abbrev pub voicingOf : (ℕ → Bool) → ℕ → Voicing
-voicingOf g i = record { pitch = i; bandpass = value (cut g 4 4); fourier = value (cut g 11 3 ++ (cut g 18 3 ++ cut g 25 2)); aperiodic = value (cut g 27 1) }
+voicingOf g i = record {
+  pitch = i;
+  bandpass = value (parityPlaces 8 (wordA g));
+  fourier = value (parityPlaces 6 (wordB g) ++ (parityPlaces 7 (wordC g) ++ take 2 (parityPlaces 7 (wordD g))));
+  aperiodic = value (drop 2 (parityPlaces 7 (wordD g)));
+}
 
 -- the repaired count of an unvoiced pitch code: 1 where it has a single one
 abbrev pub pitchRepaired : List Bool → ℕ
@@ -65,7 +63,7 @@ fromWords g (word.Read a i) (word.Read b j) (word.Read c k) (word.Read d l) = Ac
 abbrev pub byClass : (ℕ → Bool) → PitchClass → Reading
 byClass g class.Unvoiced = fromWords g (decode 8 (wordA g)) (decode 6 (wordB g)) (decode 7 (wordC g)) (decode 7 (wordD g))
 byClass g class.Erased = Erased
-byClass g (class.Voiced i) = Accepted (Voiced (indicesOf g (value (cut g 0 4)) (value (cut g 8 3)) (value (cut g 14 4)) (value (cut g 21 4))) (voicingOf g i)) 0
+byClass g (class.Voiced i) = Accepted (Voiced (indicesOf g (asReceived 8 (wordA g)) (asReceived 6 (wordB g)) (asReceived 7 (wordC g)) (asReceived 7 (wordD g))) (voicingOf g i)) 0
 
 -- what 54 logical bits are read as; the sync bit plays no part
 unfoldable pub read : (ℕ → Bool) → Reading

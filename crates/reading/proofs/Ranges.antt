@@ -14,14 +14,16 @@ use Rattle.pitch.specs.declared.PitchClass.{PitchClass}
 use Rattle.pitch.specs.declared.PitchClass.the-variants as class
 use Rattle.pitch.proofs.Codes.{indexFits, index-lt}
 use Rattle.hamming.specs.Word.{decode}
+use Rattle.hamming.proofs.Bounds.{decode-bounded}
 use Rattle.hamming.specs.declared.Decoded.{Decoded}
 use Rattle.hamming.specs.declared.Decoded.the-variants as word
+use Rattle.order.specs.Fields.{wordA, wordB, wordC, wordD, pitchBits}
 use Rattle.sets.specs.Sets.{indicesFit, voicingFits, inRange}
-use Rattle.reading.specs.Reads.{pitchBits, indicesOf, voicingOf, fromWords, byClass, read, readingFits}
+use Rattle.reading.specs.Reading.{indicesOf, voicingOf, fromWords, byClass, read, readingFits}
 use Rattle.reading.specs.declared.Reading.{Reading}
 use Rattle.reading.specs.declared.Reading.the-variants.{Accepted, Erased}
 use Rattle.sets.proofs.Ranges.{index-fits, voicing-fits}
-use Rattle.reading.proofs.Joined.{words-bounds}
+use Rattle.reading.proofs.Outcomes.{Outcomes}
 
 module _ (g : ℕ → Bool) where
   -- the indices from data within their bounds
@@ -46,21 +48,19 @@ module _ (g : ℕ → Bool) where
         aperiodic = value-lt-at 1 (cut g 27 1) refl;
       })
 
-  -- an unvoiced frame
-  words-fit : (a b c d : Decoded) → a ≡ decode 8 (cut g 0 8) → b ≡ decode 6 (cut g 8 6) → c ≡ decode 7 (cut g 14 7) → d ≡ decode 7 (cut g 21 7)
-      → T (readingFits (fromWords g a b c d))
-  words-fit word.Erased b c d ea eb ec ed = tt
-  words-fit (word.Read a i) word.Erased c d ea eb ec ed = tt
-  words-fit (word.Read a i) (word.Read b j) word.Erased d ea eb ec ed = tt
-  words-fit (word.Read a i) (word.Read b j) (word.Read c k) word.Erased ea eb ec ed = tt
-  words-fit (word.Read a i) (word.Read b j) (word.Read c k) (word.Read d l) ea eb ec ed =
-      let fit = words-bounds g (word.Read a i) (word.Read b j) (word.Read c k) (word.Read d l) a i b j c k d l refl refl refl refl (ea, eb) (ec, ed) .0 in
-      indices-fit a b c d (fit .0) (fit .1) (fit .2) (fit .3)
+  -- an unvoiced frame from outcomes that fit its words
+  words-fit : (a b c d : Decoded) → Outcomes a b c d → T (readingFits (fromWords g a b c d))
+  words-fit word.Erased b c d o = tt
+  words-fit (word.Read a i) word.Erased c d o = tt
+  words-fit (word.Read a i) (word.Read b j) word.Erased d o = tt
+  words-fit (word.Read a i) (word.Read b j) (word.Read c k) word.Erased o = tt
+  words-fit (word.Read a i) (word.Read b j) (word.Read c k) (word.Read d l) o = indices-fit a b c d (o .0 .0) (o .1 .0) (o .2 .0) (o .3 .0)
 
   -- a frame of each class
   class-fits : (c : PitchClass) → T (indexFits c) → T (readingFits (byClass g c))
   class-fits class.Unvoiced t =
-      words-fit (decode 8 (cut g 0 8)) (decode 6 (cut g 8 6)) (decode 7 (cut g 14 7)) (decode 7 (cut g 21 7)) refl refl refl refl
+      words-fit (decode 8 (wordA g)) (decode 6 (wordB g)) (decode 7 (wordC g)) (decode 7 (wordD g))
+      (decode-bounded 8 (wordA g) refl, decode-bounded 6 (wordB g) refl, decode-bounded 7 (wordC g) refl, decode-bounded 7 (wordD g) refl)
   class-fits class.Erased t = tt
   class-fits (class.Voiced i) t =
       let x = indicesOf g (value (cut g 0 4)) (value (cut g 8 3)) (value (cut g 14 4)) (value (cut g 21 4)) in

@@ -1,15 +1,15 @@
--- `order::taking::placed_word` meets its contract: after i turns the first i bytes are joined. Assumes nothing.
+-- `order::taking::placed_bits` meets its contract: after i turns the first i bytes are joined. Assumes nothing.
 use mathlib.Core.Path.{_≡_, refl, ap, _∙_}
 use Prim.Native.Nat.{ℕ, _*_, _-_, _≤_, _<_}
 use native.Mathlib.Omega.{arith}
 use lib.ListN.{length, getD}
 use borrow.Author.Needs.{needs}
 use Rattle.bits.specs.Bits.{value, cut}
+use Rattle.bits.proofs.Numbers.{cut-value-lt}
 use Rattle.order.specs.Order.{bitAt}
 use Rattle.order.proofs.Answers.{byte-more}
-use Rattle.order.proofs.Words.{gather-lt}
-use Rattle.order.proofs.taking.placed_word.Statement.{statement}
-use Rattle.order.proofs.taking.placed_word.Tie as tie
+use Rattle.order.proofs.taking.placed_bits.Statement.{statement}
+use Rattle.order.proofs.taking.placed_bits.Tie as tie
 
 abbrev Inv-loop : tie.InvT-loop
 Inv-loop frame placed₀ i₀ placed i = (i ≤ 7) × (placed ≡ value (cut (bitAt frame) 0 (8 * i))) × (length frame ≡ 7)
@@ -23,7 +23,7 @@ loop-holds c = (search needs, refl, c .pre)
 mul-placed : tie.Need-mul-placed Inv-loop μ-loop
 mul-placed c =
     let L = c .before .loop in
-    omega (arith, gather-lt (bitAt (c .before .before .args .frame .now)) 0 (8 * L .i) 48 (L .placed) (omega arith) (L .inv .1))
+    omega (arith, cut-value-lt (bitAt (c .before .before .args .frame .now)) 0 (8 * L .i) 48 (L .placed) (omega arith) (L .inv .1))
 
 shared-slice-read-placed : tie.Need-shared-slice-read-placed Inv-loop μ-loop
 shared-slice-read-placed c = omega arith
@@ -36,7 +36,7 @@ add-placed c =
     let L = c .before .before .loop in
     omega (
       arith,
-      gather-lt (bitAt (c .before .before .before .args .frame .now)) 0 (8 * L .i) 48 (L .placed) (omega arith) (L .inv .1),
+      cut-value-lt (bitAt (c .before .before .before .args .frame .now)) 0 (8 * L .i) 48 (L .placed) (omega arith) (L .inv .1),
       c .shared-slice-known .given (L .i),
     )
 
@@ -59,6 +59,6 @@ returns c =
     let e : 8 * L .i ≡ 56 = omega arith in
     L .inv .1 ∙ ap (λ (k : ℕ). value (cut (bitAt (c .before .before .args .frame .now)) 0 k)) e
 
-pub placed-word-spec : {M : Type 1} → statement M
-placed-word-spec =
+pub placed-bits-spec : {M : Type 1} → statement M
+placed-bits-spec =
     tie.close (tie.spec Inv-loop μ-loop loop-holds mul-placed shared-slice-read-placed cast-placed add-placed add-i loop-less loop-again returns)
