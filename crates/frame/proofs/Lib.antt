@@ -1,9 +1,4 @@
-pub mod Fields
-pub mod Repaired
-pub mod Kept
-pub mod Returned
-pub mod Ordered
-pub mod Neighbours
+pub mod SharedIndices
+pub mod Places
 pub mod Numbers
-pub mod Packed
-pub mod Flips
+pub mod Answers

@@ -12,7 +12,7 @@ use Rattle.hamming.specs.Word.{parityOf}
 use Rattle.frame.specs.Layout.{dataA, dataB, dataC, dataD, words, unvoicedWords, voicedWords, others}
 use Rattle.sets.specs.declared.Indices.{Indices}
 use Rattle.sets.specs.declared.Voicing.{Voicing}
-use Rattle.frame.proofs.Fields.{dataA-is, dataC-is, dataD-is, dataA-value, dataB-value, dataC-value, dataD-value}
+use Rattle.frame.proofs.SharedIndices.{dataA-is, dataC-is, dataD-is, dataA-value, dataB-value, dataC-value, dataD-value}
 
 module _ (x : Indices) where
   -- the four words, from numbers in their parity places

@@ -1,3 +1,2 @@
 pub mod Layout
 pub mod Packing
-pub mod Damage

@@ -1,10 +1,11 @@
 -- Document 01, "Order of the bits" and "Refusals by place": what a packing call answers and leaves.
 use Prim.Native.Nat.{ℕ, zero, suc}
-use mathlib.Core.Bool.{Bool, false, not, cond}
-use mathlib.Core.List.{List}
+use mathlib.Core.Bool.{Bool, false, not}
+use mathlib.Core.List.{List, [], _∷_}
 use lib.Dec.{ltb}
 use lib.ListN.{length}
 use Rattle.bits.specs.Lists.{writtenUnless}
+use Rattle.bits.specs.Refusals.{Table, firstRefusal}
 use Rattle.order.specs.Order.{defaultOrder}
 use Rattle.sets.specs.Sets.{sendable}
 use Rattle.frame.specs.Layout.{frame}
@@ -16,9 +17,13 @@ use Rattle.frame.specs.declared.PackAnswer.the-variants.{Packed, Refused
 abbrev pub freshSync : Bool
 freshSync = false
 
--- the refusal, 0 is none: 1 for an output of fewer than seven bytes, then 5 for a set that a sender does not take
+-- what refuses a call: an output of fewer than seven bytes; a set that a sender does not take
+abbrev pub packTable : ParameterSet → ℕ → Table
+packTable set room = (ltb room 7, 1) ∷ (not (sendable set), 5) ∷ []
+
+-- its refusal, 0 is none
 abbrev pub packRefusal : ParameterSet → ℕ → ℕ
-packRefusal set room = cond (ltb room 7) 1 (cond (sendable set) 0 5)
+packRefusal set room = firstRefusal (packTable set room)
 
 -- the answer: the sync bit changes after each frame packed; a refusal is its number
 abbrev pub packedUnless : ℕ → Bool → PackAnswer

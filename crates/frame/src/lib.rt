@@ -1,6 +1,6 @@
 // The coded frame: the 54 logical bits of a set, and packing.
+mod layout;
 mod packing;
-mod word;
 
 pub use packing::fresh_sync;
 pub use packing::pack;

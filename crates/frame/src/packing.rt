@@ -1,6 +1,6 @@
 // Packing: a parameter set and a sync bit into the seven bytes of a frame.
 use crate::PackAnswer;
-use crate::word::logical_word;
+use crate::layout::logical_number;
 use order::place_bits;
 use sets::ParameterSet;
 use sets::is_sendable;
@@ -37,7 +37,7 @@ pub fn pack(set: ParameterSet, sync: bool, out: &mut [u8]) -> PackAnswer
         return PackAnswer::Refused(1);
     }
     if is_sendable(set) {
-        write_front(out, place_bits(logical_word(set, sync)));
+        write_front(out, place_bits(logical_number(set, sync)));
         return PackAnswer::Packed(!sync);
     }
     PackAnswer::Refused(5)

@@ -1,6 +1,6 @@
-pub mod Yields
-pub mod Taken
+pub mod Results
+pub mod Refusals
 pub mod Sync
-pub mod Arrived
 pub mod Validity
-pub mod Cases
+pub mod Answers
+pub mod Facts

@@ -9,7 +9,7 @@ use lib.Dec.{T}
 use Rattle.order.specs.Order.{Order, frameOf, logicalBit}
 use Rattle.order.proofs.Frames.{sent-bit}
 use Rattle.order.proofs.Refusals.{packed-taken}
-use Rattle.reading.specs.Reads.{read}
+use Rattle.reading.specs.Reading.{read}
 use Rattle.reading.specs.declared.Reading.{Reading}
 use Rattle.reading.specs.declared.Reading.the-variants.{Accepted, Erased}
 use Rattle.reading.proofs.Extent.{read-ext}
@@ -19,7 +19,7 @@ use Rattle.receiver.specs.Steps.{accepted, repeated, step}
 use Rattle.receiver.specs.Receiving.{receive}
 use Rattle.receiver.specs.Sync.{withSync, SyncDiffers, SyncAlone}
 use Rattle.receiver.specs.declared.Received.{Received}
-use Rattle.receiver.proofs.Taken.{not-refused, receive-taken}
+use Rattle.receiver.proofs.Refusals.{not-refused, receive-taken}
 
 step-sync : (r : Record) (s t : Bool) (x : Reading) → (step r t x .answer ≡ withSync t (step r s x .answer)) × (step r t x .next ≡ step r s x .next)
 unfolding accepted repeated

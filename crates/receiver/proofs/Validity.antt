@@ -4,11 +4,11 @@ use mathlib.Core.List.{List}
 use Prim.Native.Nat.{ℕ, zero, suc}
 use lib.Dec.{T}
 use Rattle.order.specs.Order.{logicalBit}
-use Rattle.reading.specs.Reads.{read}
-use Rattle.reading.proofs.Fits.{read-fits}
+use Rattle.reading.specs.Reading.{read}
+use Rattle.reading.proofs.Ranges.{read-fits}
 use Rattle.records.specs.Records.{valid}
 use Rattle.records.specs.declared.Record.{Record}
-use Rattle.receiver.proofs.Yields.{step-valid}
+use Rattle.receiver.proofs.Results.{step-valid}
 use Rattle.receiver.specs.Receiving.{receiveRefusal, receiveUnless, receive}
 
 -- receiving any bytes leaves a valid record where it was given one

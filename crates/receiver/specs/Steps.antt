@@ -12,14 +12,14 @@ use Rattle.receiver.specs.declared.Kind.the-variants as kind
 use Rattle.records.specs.declared.Record.{Record}
 use Rattle.receiver.specs.declared.ReceiveAnswer.the-variants.{Result}
 use Rattle.receiver.specs.declared.Received.{Received}
-use Rattle.records.specs.Records.{acceptedKind, repeatedKind, pushed, muted}
+use Rattle.records.specs.Records.{afterAccepted, afterRepeat, muted}
 
 -- the kind of an accepted frame
 abbrev pub kindOf : ParameterSet → Kind
 kindOf (Unvoiced x) = kind.Unvoiced
 kindOf (Voiced x v) = kind.Voiced
 
--- accepted: the set is the result and the last set, its G2 the last G2; the first level goes by q, the G2 accepted before
+-- accepted: the set is the result; the first level goes by q, the G2 accepted before, and mute by the kinds with this frame among them
 unfoldable pub accepted : Record → Bool → ParameterSet → ℕ → Received
 accepted r sync set repaired = record {
   answer = Result (record {
@@ -27,14 +27,14 @@ accepted r sync set repaired = record {
     set = set;
     first = firstLevel (indicesIn set .g2) (indicesIn set .g1) (r .g2);
     second = level (indicesIn set .g2);
-    mute = muted (pushed (r .kinds) acceptedKind);
+    mute = muted (afterAccepted r set .kinds);
     sync = sync;
     repaired = repaired;
   });
-  next = record { last = set; g2 = indicesIn set .g2; kinds = pushed (r .kinds) acceptedKind };
+  next = afterAccepted r set;
 }
 
--- a repeat: the last set is the result, both levels are that of the last G2, and last set and G2 stay
+-- a repeat: the last set is the result, and both levels are that of the last G2
 unfoldable pub repeated : Record → Bool → Received
 repeated r sync = record {
   answer = Result (record {
@@ -42,11 +42,11 @@ repeated r sync = record {
     set = r .last;
     first = level (r .g2);
     second = level (r .g2);
-    mute = muted (pushed (r .kinds) repeatedKind);
+    mute = muted (afterRepeat r .kinds);
     sync = sync;
     repaired = 0;
   });
-  next = record { last = r .last; g2 = r .g2; kinds = pushed (r .kinds) repeatedKind };
+  next = afterRepeat r;
 }
 
 -- a frame that is not erased is accepted, an erased one is a repeat

@@ -29,9 +29,9 @@ pub fn receive(rec: Record, frame: &[u8]) -> Received
 {
     match logical_bits(frame) {
         BitsAnswer::Refused(n) => refuse(rec, n),
-        BitsAnswer::Bits(word) => {
+        BitsAnswer::Bits(bits) => {
             if is_valid(rec) {
-                step(rec, word % 2 == 1, read(word))
+                step(rec, bits % 2 == 1, read(bits))
             } else {
                 refuse(rec, 4)
             }
@@ -41,8 +41,8 @@ pub fn receive(rec: Record, frame: &[u8]) -> Received
 
 // The same, with the record changed in the caller's memory.
 pub fn receive_in_place(rec: &mut Record, frame: &[u8]) -> ReceiveAnswer
-    ensures { λ r. ⌜ (r ≡ receive defaultOrder (now (rec .entry)) (now (frame .entry)) .answer)
-        × (now (rec .exit) ≡ receive defaultOrder (now (rec .entry)) (now (frame .entry)) .next) ⌝ }
+    ensures answer { λ r. ⌜ r ≡ receive defaultOrder (now (rec .entry)) (now (frame .entry)) .answer ⌝ }
+    ensures record { λ _. ⌜ now (rec .exit) ≡ receive defaultOrder (now (rec .entry)) (now (frame .entry)) .next ⌝ }
 {
     let received = receive(*rec, frame);
     *rec = received.next;

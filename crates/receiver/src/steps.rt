@@ -6,16 +6,16 @@ use crate::Received;
 use crate::levels::first_level_of;
 use crate::levels::level_of;
 use reading::Reading;
-use records::FrameKind;
 use records::Record;
+use records::after_accepted;
+use records::after_repeat;
 use records::is_muted;
-use records::push;
 use sets::ParameterSet;
 use sets::indices_of;
 ghost use mathlib.Core.Path.{_≡_};
 ghost use mathlib.Core.Bool.{true};
 ghost use Rattle.sets.specs.Sets.{inRange};
-ghost use Rattle.reading.specs.Reads.{readingFits};
+ghost use Rattle.reading.specs.Reading.{readingFits};
 ghost use Rattle.records.specs.Records.{valid};
 ghost use Rattle.receiver.specs.Steps.{kindOf, accepted, repeated, step};
 
@@ -29,15 +29,14 @@ fn kind_of(set: ParameterSet) -> Kind
     }
 }
 
-// An accepted frame: its set is the result, and becomes the last one. The first level goes by the G2 accepted
-// before, which the record holds.
+// An accepted frame: its set is the result. The first level goes by the G2 accepted before, which the record holds.
 fn accept(rec: Record, sync: bool, set: ParameterSet, repaired: u8) -> Received
     requires { ⌜ (valid rec ≡ true) × (inRange set ≡ true) ⌝ }
     ensures { λ r. ⌜ r ≡ accepted rec sync set repaired ⌝ }
 {
-    let old = rec.kinds;
-    let kinds = push(old, FrameKind { repeat: false });
     let x = indices_of(set);
+    let next = after_accepted(rec, set);
+    let kinds = next.kinds;
     Received {
         answer: ReceiveAnswer::Result(FrameResult {
             kind: kind_of(set),
@@ -48,38 +47,30 @@ fn accept(rec: Record, sync: bool, set: ParameterSet, repaired: u8) -> Received
             sync,
             repaired,
         }),
-        next: Record {
-            last: set,
-            g2: x.g2,
-            kinds,
-        },
+        next,
     }
 }
 
-// A repeat: the last set is the result, at the level of the last G2, and both stay.
+// A repeat: the last set is the result, at the level of the last G2.
 fn repeat(rec: Record, sync: bool) -> Received
     requires { ⌜ valid rec ≡ true ⌝ }
     ensures { λ r. ⌜ r ≡ repeated rec sync ⌝ }
 {
-    let last = rec.last;
-    let old = rec.kinds;
-    let kinds = push(old, FrameKind { repeat: true });
+    let set = rec.last;
     let level = level_of(rec.g2);
+    let next = after_repeat(rec);
+    let kinds = next.kinds;
     Received {
         answer: ReceiveAnswer::Result(FrameResult {
             kind: Kind::Repeat,
-            set: last,
+            set,
             first: level,
             second: level,
             mute: is_muted(kinds),
             sync,
             repaired: 0,
         }),
-        next: Record {
-            last,
-            g2: rec.g2,
-            kinds,
-        },
+        next,
     }
 }
 

@@ -5,7 +5,8 @@ use mathlib.Core.List.{List, [], _∷_, _++_}
 use lib.Dec.{leb, ltb}
 use lib.ListN.{drop, replicate}
 use Rattle.bits.specs.Bits.{addOne}
-use Rattle.sets.specs.Sets.{inRange}
+use Rattle.sets.specs.Sets.{indicesIn, inRange}
+use Rattle.sets.specs.declared.ParameterSet.{ParameterSet}
 use Rattle.sets.specs.declared.ParameterSet.the-variants.{Unvoiced}
 use Rattle.records.specs.declared.FrameKind.{FrameKind}
 use Rattle.records.specs.declared.Record.{Record}
@@ -32,6 +33,14 @@ valid r = inRange (r .last) && ltb (r .g2) 32
 -- the kinds after a frame: the oldest goes out, this one goes in as the latest
 abbrev pub pushed : List FrameKind → FrameKind → List FrameKind
 pushed kinds kind = drop 1 kinds ++ kind ∷ []
+
+-- the next record after an accepted frame: its set is the last set, its G2 the last G2, and its kind goes in
+abbrev pub afterAccepted : Record → ParameterSet → Record
+afterAccepted r set = record { last = set; g2 = indicesIn set .g2; kinds = pushed (r .kinds) acceptedKind }
+
+-- and after a repeat: last set and G2 stay
+abbrev pub afterRepeat : Record → Record
+afterRepeat r = record { last = r .last; g2 = r .g2; kinds = pushed (r .kinds) repeatedKind }
 
 -- how many are repeats
 abbrev pub repeats : List FrameKind → ℕ

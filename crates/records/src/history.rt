@@ -6,7 +6,7 @@ ghost use Rattle.bits.specs.Bits.{bitNum};
 ghost use Rattle.records.specs.Records.{pushed, repeats, muted};
 
 // The kinds after one frame more: each moves a place to the front, so that the oldest goes out and this one is the latest.
-pub fn push(kinds: [FrameKind; 16], kind: FrameKind) -> [FrameKind; 16]
+pub(crate) fn push(kinds: [FrameKind; 16], kind: FrameKind) -> [FrameKind; 16]
     ensures { λ r. ⌜ r ≡ pushed kinds kind ⌝ }
 {
     let mut next = [kind; 16];
@@ -18,7 +18,8 @@ pub fn push(kinds: [FrameKind; 16], kind: FrameKind) -> [FrameKind; 16]
 
 // A bit as a number.
 fn bit_number(b: bool) -> u8
-    ensures { λ r. ⌜ (r ≡ bitNum b) × (r ≤ 1) ⌝ }
+    ensures number { λ r. ⌜ r ≡ bitNum b ⌝ }
+    ensures bound { λ r. ⌜ r ≤ 1 ⌝ }
 {
     if b { 1 } else { 0 }
 }

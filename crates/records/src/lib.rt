@@ -1,9 +1,15 @@
-// A receiver's record: the fresh one, its range test, and the kinds of the latest sixteen frames.
+// A receiver's record.
+//
+//   state    the fresh record, and the range test of a record
+//   next     the record after a frame
+//   history  the kinds of the latest sixteen frames
 mod history;
+mod next;
 mod state;
 
 pub use history::is_muted;
-pub use history::push;
+pub use next::after_accepted;
+pub use next::after_repeat;
 use sets::ParameterSet;
 pub use state::fresh;
 pub use state::is_valid;

@@ -2,7 +2,7 @@
 use mathlib.Core.Path.{sym, _∙_}
 use borrow.Author.Needs.{needs}
 use Rattle.order.specs.Order.{defaultOrder}
-use Rattle.frame.proofs.Packed.{word-frame, short-owes, range-owes, packed-owes}
+use Rattle.frame.proofs.Answers.{number-frame, short-owes, range-owes, packed-owes}
 use Rattle.frame.proofs.packing.pack.Statement.{statement}
 use Rattle.frame.proofs.packing.pack.Tie as tie
 
@@ -14,8 +14,8 @@ returns c =
 is-sendable-requires : tie.Need-is-sendable-requires
 is-sendable-requires c κs = search needs
 
-logical-word-requires : tie.Need-logical-word-requires
-logical-word-requires c κs = sym (c .before .before .is-sendable .ensures) ∙ c .before .if2 .taken
+logical-number-requires : tie.Need-logical-number-requires
+logical-number-requires c κs = sym (c .before .before .is-sendable .ensures) ∙ c .before .if2 .taken
 
 place-bits-requires : tie.Need-place-bits-requires
 place-bits-requires c κs = search needs
@@ -33,8 +33,8 @@ returns-2 c =
     let taken = placed .before .before .before in
     let a = taken .before .before .before .before .args in
     packed-owes (a .set) (a .sync) (a .out .now) (taken .before .before .if1 .left) (sym (taken .before .is-sendable .ensures) ∙ taken .if2 .taken)
-    (placed .place-bits .result) _ (placed .place-bits .ensures ∙ word-frame defaultOrder (a .set) (a .sync) _
-    (placed .before .logical-word .ensures)) (written .write-front .ensures)
+    (placed .place-bits .result) _ (placed .place-bits .ensures ∙ number-frame defaultOrder (a .set) (a .sync) _
+    (placed .before .logical-number .ensures)) (written .write-front .ensures)
 
 returns-3 : tie.Need-returns-3
 returns-3 c =
@@ -42,4 +42,4 @@ returns-3 c =
     range-owes (a .set) (a .sync) (a .out .now) (c .before .before .if1 .left) (sym (c .before .is-sendable .ensures) ∙ c .if2 .left)
 
 pub pack-spec : {M : Type 1} → statement M
-pack-spec = tie.close (tie.spec returns is-sendable-requires logical-word-requires place-bits-requires write-front-requires same-length returns-2 returns-3)
+pack-spec = tie.close (tie.spec returns is-sendable-requires logical-number-requires place-bits-requires write-front-requires same-length returns-2 returns-3)

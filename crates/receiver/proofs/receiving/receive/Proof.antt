@@ -4,10 +4,10 @@ use lib.Dec.{eqb}
 use Prim.Native.Nat.{_%_}
 use borrow.Author.Needs.{needs}
 use Rattle.bits.proofs.Every.{true-T}
-use Rattle.reading.specs.Reads.{readingFits}
-use Rattle.reading.proofs.Fits.{read-fits}
+use Rattle.reading.specs.Reading.{readingFits}
+use Rattle.reading.proofs.Ranges.{read-fits}
 use Rattle.receiver.specs.Steps.{step}
-use Rattle.receiver.proofs.Cases.{frame-owes, record-owes, step-owes}
+use Rattle.receiver.proofs.Answers.{frame-owes, record-owes, step-owes}
 use Rattle.receiver.proofs.receiving.receive.Statement.{statement}
 use Rattle.receiver.proofs.receiving.receive.Tie as tie
 
@@ -20,8 +20,8 @@ enum-known-n c = search needs
 refuse-requires : tie.Need-refuse-requires
 refuse-requires c κs = search needs
 
-enum-known-word : tie.Need-enum-known-word
-enum-known-word c = search needs
+enum-known-bits : tie.Need-enum-known-bits
+enum-known-bits c = search needs
 
 is-valid-requires : tie.Need-is-valid-requires
 is-valid-requires c κs = search needs
@@ -40,30 +40,30 @@ refuse-requires-2 c κs = search needs
 returns : tie.Need-returns
 returns c =
     let known = c .before .before in
-    let bits = known .before .before in
-    let a = bits .before .before .args in
-    c .refuse .ensures ∙ frame-owes (a .rec) (a .frame .now) _ (sym (bits .logical-bits .ensures) ∙ known .n .given .1)
+    let asked = known .before .before in
+    let a = asked .before .before .args in
+    c .refuse .ensures ∙ frame-owes (a .rec) (a .frame .now) _ (sym (asked .logical-bits .ensures) ∙ known .n .given .1)
 
 returns-2 : tie.Need-returns-2
 returns-2 c =
     let fits = c .before .before .before in
     let known = fits .before .before in
-    let bits = known .before .before in
-    let a = bits .before .before .args in
-    let word = known .word .given .0 .0 in
+    let asked = known .before .before in
+    let a = asked .before .before .args in
+    let n = known .bits .given .0 .0 in
     c .step .ensures
-    ∙ ap (step (a .rec) (eqb (word % 2) 1)) (c .before .read .ensures)
-    ∙ step-owes (a .rec) (a .frame .now) word (sym (bits .logical-bits .ensures) ∙ known .word .given .1)
+    ∙ ap (step (a .rec) (eqb (n % 2) 1)) (c .before .read .ensures)
+    ∙ step-owes (a .rec) (a .frame .now) n (sym (asked .logical-bits .ensures) ∙ known .bits .given .1)
     (sym (fits .is-valid .ensures) ∙ c .before .before .if1 .taken)
 
 returns-3 : tie.Need-returns-3
 returns-3 c =
     let fits = c .before .before in
     let known = fits .before .before in
-    let bits = known .before .before in
-    let a = bits .before .before .args in
+    let asked = known .before .before in
+    let a = asked .before .before .args in
     c .refuse2 .ensures
-    ∙ record-owes (a .rec) (a .frame .now) _ (sym (bits .logical-bits .ensures) ∙ known .word .given .1)
+    ∙ record-owes (a .rec) (a .frame .now) _ (sym (asked .logical-bits .ensures) ∙ known .bits .given .1)
     (sym (fits .is-valid .ensures) ∙ c .before .if1 .left)
 
 pub receive-spec : {M : Type 1} → statement M
@@ -73,7 +73,7 @@ receive-spec =
     logical-bits-requires
     enum-known-n
     refuse-requires
-    enum-known-word
+    enum-known-bits
     is-valid-requires
     read-requires
     step-requires

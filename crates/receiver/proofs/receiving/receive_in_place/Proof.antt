@@ -42,7 +42,7 @@ use denote.Triple.Clauses.{ensured, lasts}
 use denote.Triple.Entry.{onEntry}
 use denote.Triple.Spec.{Meets, tripleOf}
 use denote.Triple.Table.{entered, cited}
-use denote.Triple.Walked.{says, Stays, stay-ref, stay-none-slice, walkOf, goes-ref, goes-none-slice, Walks, ends-at, walked, walk-meets}
+use denote.Triple.Walked.{Stays, stay-ref, stay-none-slice, walkOf, goes-ref, goes-none-slice, Walks, ends-at, walked, walk-meets}
 use denote.Exit.{yes}
 use Rattle.order.specs.Order.{defaultOrder}
 use Rattle.receiver.specs.Receiving.{receive}
@@ -50,6 +50,7 @@ use Rattle.records.specs.declared.Record.{Record}
 use Rattle.receiver.specs.declared.Received.{Received}
 use Rattle.records.proofs.Record as rec
 use Rattle.records.proofs.Record.Laws as rec-laws
+use Rattle.receiver.proofs.Facts.{both-shown}
 use Rattle.receiver.proofs.Received as got
 use Rattle.receiver.proofs.Received.Laws as got-laws
 use Rattle.receiver.proofs.ReceiveAnswer as ans
@@ -143,7 +144,7 @@ module _ {M : Type 1} (𝓤 : URA M) (H : Heap 𝓤) (A : Atoms 𝓤) (W : Given
       ∷ (‵ (flft κ′ q′) ⊛ ‵ ftrue) ∷ ‵ Own ∷ []) ∵
       suffices ! _ (ends-at 𝓤 H A in-place.ended stayed (in-place.clauses 𝓤 H A at-mem run) W (((κ, (κ′, tt)), (q, (q′, tt)), tt, a, at), tt)
       (answer-val r) (r .answer) (r .next, (tt, tt)) (tt, (tt, tt))) $
-      says ! ((λ i. e i .answer), (λ i. e i .next)) $
+      suffices ! _ (both-shown 𝓤 (r .answer ≡ found .answer) (r .next ≡ found .next) _ (λ i. e i .answer) (λ i. e i .next)) $
       move ! (2 ∷ 3 ∷ []) $ join ! $ frame ! $ feqI ! (List Val) (vptr b o ∷ []) (vptr b o ∷ []) refl $ fjoin3 ! $ nothing ! $
       move ! (2 ∷ 0 ∷ []) $ fjoin ! $ move ! (1 ∷ 0 ∷ []) $ fjoin ! $
       owned ! ans.the-row (Is ans.the-row) (enums.makes ans.the-type ans-laws.the-plain 𝓤 H A) (r .answer) _ (is-answer r is) $

@@ -9,29 +9,28 @@ use Rattle.receiver.specs.Steps.{accepted}
 use Rattle.receiver.proofs.steps.accept.Statement.{statement}
 use Rattle.receiver.proofs.steps.accept.Tie as tie
 
-push-requires : tie.Need-push-requires
-push-requires c κs = search needs
-
 indices-of-requires : tie.Need-indices-of-requires
 indices-of-requires c κs = search needs
+
+after-accepted-requires : tie.Need-after-accepted-requires
+after-accepted-requires c κs = search needs
 
 kind-of-requires : tie.Need-kind-of-requires
 kind-of-requires c κs = search needs
 
 -- the set's indices are in their ranges
 ranges : (c : tie.After-indices-of) → IndexRanges (c .indices-of .result)
-ranges c =
-    let s = c .before .before .before in
-    subst⁻¹ IndexRanges (c .indices-of .ensures) (set-ranges (s .args .set) (T-true _ (s .pre .1)))
+ranges c = subst⁻¹ IndexRanges (c .indices-of .ensures) (set-ranges (c .before .args .set) (T-true _ (c .before .pre .1)))
 
 first-level-of-requires : tie.Need-first-level-of-requires
 first-level-of-requires c κs =
-    let s = c .before .before .before .before in
-    let r = ranges (c .before) in
+    let x = c .before .before .before in
+    let s = x .before in
+    let r = ranges x in
     (omega (arith, r .g2), omega (arith, r .g1), omega (arith, valid-g2 (s .args .rec) (T-true _ (s .pre .0))))
 
 level-of-requires : tie.Need-level-of-requires
-level-of-requires c κs = ranges (c .before .before) .g2
+level-of-requires c κs = ranges (c .before .before .before .before) .g2
 
 is-muted-requires : tie.Need-is-muted-requires
 is-muted-requires c κs = search needs
@@ -40,17 +39,17 @@ returns : tie.Need-returns
 unfolding accepted
 returns c =
     let first = c .before .before in
-    let indexed = first .before .before in
+    let next = first .before .before .before in
     simp (
       c .is-muted .ensures,
       c .before .level-of .ensures,
       first .first-level-of .ensures,
       first .before .kind-of .ensures,
-      indexed .indices-of .ensures,
-      indexed .before .push .ensures,
+      next .after-accepted .ensures,
+      next .before .indices-of .ensures,
     )
 
 pub accept-spec : {M : Type 1} → statement M
 accept-spec =
     tie.close
-    (tie.spec push-requires indices-of-requires kind-of-requires first-level-of-requires level-of-requires is-muted-requires returns)
+    (tie.spec indices-of-requires after-accepted-requires kind-of-requires first-level-of-requires level-of-requires is-muted-requires returns)

@@ -6,18 +6,20 @@ use Rattle.receiver.specs.Steps.{repeated}
 use Rattle.receiver.proofs.steps.repeat.Statement.{statement}
 use Rattle.receiver.proofs.steps.repeat.Tie as tie
 
-push-requires : tie.Need-push-requires
-push-requires c κs = search needs
-
 level-of-requires : tie.Need-level-of-requires
-level-of-requires c κs = valid-g2 (c .before .before .args .rec) (T-true _ (c .before .before .pre))
+level-of-requires c κs = valid-g2 (c .args .rec) (T-true _ (c .pre))
+
+after-repeat-requires : tie.Need-after-repeat-requires
+after-repeat-requires c κs = search needs
 
 is-muted-requires : tie.Need-is-muted-requires
 is-muted-requires c κs = search needs
 
 returns : tie.Need-returns
 unfolding repeated
-returns c = simp (c .is-muted .ensures, c .before .level-of .ensures, c .before .before .push .ensures)
+returns c =
+    let next = c .before .before in
+    simp (c .is-muted .ensures, next .after-repeat .ensures, next .before .level-of .ensures)
 
 pub repeat-spec : {M : Type 1} → statement M
-repeat-spec = tie.close (tie.spec push-requires level-of-requires is-muted-requires returns)
+repeat-spec = tie.close (tie.spec level-of-requires after-repeat-requires is-muted-requires returns)

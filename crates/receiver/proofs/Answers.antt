@@ -1,0 +1,67 @@
+-- What a receiving call owes in each of its cases, by what was taken from the frame: its refusal, or its logical bits in one number.
+-- Assumes nothing.
+use mathlib.Core.Path.{_≡_, refl, sym, ap, ap₂, _∙_}
+use mathlib.Core.Bool.{Bool, true, false}
+use mathlib.Core.List.{List}
+use Prim.Native.Nat.{ℕ, zero, suc, _/_, _%_, _<_}
+use native.Mathlib.Omega.{arith}
+use lib.Dec.{eqb, lit<}
+use Rattle.bits.specs.Bits.{value, cut, carried}
+use Rattle.bits.proofs.Digits.{bits-at}
+use Rattle.bits.proofs.Every.{T-true}
+use Rattle.order.specs.Order.{defaultOrder, logicalBit, frameRefusal}
+use Rattle.order.specs.Taking.{bitsUnless, bitsAnswer}
+use Rattle.bits.proofs.Numbers.{carried-back}
+use Rattle.order.specs.declared.BitsAnswer.the-variants as taking
+use Rattle.reading.specs.Reading.{read}
+use Rattle.reading.specs.declared.Reading.{Reading}
+use Rattle.reading.proofs.Extent.{read-ext}
+use Rattle.records.specs.Records.{valid}
+use Rattle.receiver.specs.Steps.{step}
+use Rattle.receiver.specs.Receiving.{receiveRefusal, receiveUnless, receive}
+use Rattle.receiver.proofs.Refusals.{frame-refused, record-refused, not-refused}
+use Rattle.records.specs.declared.Record.{Record}
+use Rattle.receiver.specs.declared.ReceiveAnswer.the-variants.{Refused}
+
+-- the last bit of a number is its remainder
+last-bit : (n : ℕ) → eqb (n % 2) 1 ≡ carried 54 n 53
+last-bit n =
+    let e : n / 1 % 2 ≡ n % 2 = omega arith in
+    sym (bits-at 54 53 n (lit< tt) ∙ ap (λ (x : ℕ). eqb x 1) e)
+
+module _ (r : Record) (bytes : List ℕ) where
+  -- bits are taken from a frame that is not refused, and are its logical bits
+  taken : (n : ℕ) → bitsAnswer bytes ≡ taking.Bits n → (frameRefusal bytes ≡ 0) × (n ≡ value (cut (logicalBit defaultOrder bytes) 0 54))
+  unfolding bitsAnswer
+  taken n e = go (frameRefusal bytes) refl e
+    where
+      go : (m : ℕ) → frameRefusal bytes ≡ m → bitsUnless m bytes ≡ taking.Bits n → (frameRefusal bytes ≡ 0) × (n ≡ value (cut (logicalBit defaultOrder bytes) 0 54))
+      go zero f e = (f, cc)
+      go (suc m) f e = let z : _≡_ {A = ℕ} 0 1 = cc in absurd (omega arith)
+
+  -- what a call owes by the number of its refusal
+  owes : (n : ℕ) → receiveRefusal r bytes ≡ n → receiveUnless n defaultOrder r bytes ≡ receive defaultOrder r bytes
+  unfolding receive
+  owes n e = ap (λ (m : ℕ). receiveUnless m defaultOrder r bytes) (sym e)
+
+  -- a frame that is refused
+  pub frame-owes : (n : ℕ) → bitsAnswer bytes ≡ taking.Refused n → record { answer = Refused n; next = r } ≡ receive defaultOrder r bytes
+  unfolding bitsAnswer
+  frame-owes n e = go (frameRefusal bytes) refl e
+    where
+      go : (m : ℕ) → frameRefusal bytes ≡ m → bitsUnless m bytes ≡ taking.Refused n → record { answer = Refused n; next = r } ≡ receive defaultOrder r bytes
+      go zero f e = let z : _≡_ {A = ℕ} 0 1 = cc in absurd (omega arith)
+      go (suc m) f e = ap (λ (k : ℕ). record { answer = Refused k; next = r }) (cc) ∙ owes (suc m) (frame-refused r bytes m f)
+
+  module _ (n : ℕ) (e : bitsAnswer bytes ≡ taking.Bits n) where
+    -- a record out of range
+    pub record-owes : valid r ≡ false → record { answer = Refused 4; next = r } ≡ receive defaultOrder r bytes
+    record-owes v = owes 4 (record-refused r bytes (taken n e .0) v)
+
+    -- nothing refused
+    pub step-owes : valid r ≡ true → step r (eqb (n % 2) 1) (read (carried 54 n)) ≡ receive defaultOrder r bytes
+    step-owes v =
+        let g : ℕ → Bool = logicalBit defaultOrder bytes in
+        let same : (j : ℕ) → j < 54 → carried 54 n j ≡ g j = λ j h. carried-back 54 g n j (taken n e .1) h in
+        ap₂ (λ (s : Bool) (x : Reading). step r s x) (last-bit n ∙ same 53 (lit< tt)) (read-ext (carried 54 n) g (λ j h. same j (omega arith)))
+        ∙ owes 0 (not-refused r bytes (taken n e .0) (T-true (valid r) v))
