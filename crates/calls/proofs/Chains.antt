@@ -10,7 +10,7 @@ use Rattle.bits.specs.Bits.{cut}
 use Rattle.bits.proofs.Cut.{cut-suc}
 use Rattle.order.specs.Order.{Order, logicalBit}
 use Rattle.frame.specs.Layout.{frame}
-use Rattle.reading.specs.Reads.{read}
+use Rattle.reading.specs.Reading.{read}
 use Rattle.sets.proofs.Ranges.{sendable-fits}
 use Rattle.records.specs.Records.{valid}
 use Rattle.receiver.specs.Steps.{accepted}
@@ -20,8 +20,8 @@ use Rattle.records.specs.declared.Record.{Record}
 use Rattle.receiver.specs.declared.ReceiveAnswer.{ReceiveAnswer}
 use Rattle.receiver.specs.declared.ReceiveAnswer.the-variants.{Result}
 use Rattle.receiver.specs.declared.Received.{Received}
-use Rattle.receiver.proofs.Yields.{resultIn, step-answers, accepted-valid}
-use Rattle.receiver.proofs.Arrived.{packed-accepted, arrived-taken}
+use Rattle.receiver.proofs.Results.{resultIn, step-answers, accepted-valid}
+use Rattle.damage.proofs.Arrival.{packed-accepted, arrived-taken}
 use Rattle.calls.specs.Model.{Answer, done, Outcome, outcomes, PackKind, ReceiveKind, outcomeOf, receiveModel, receiveKind}
 use Rattle.calls.specs.Observed.{sent}
 use Rattle.calls.specs.Frames.{Row, setOf}

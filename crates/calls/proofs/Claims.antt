@@ -6,7 +6,7 @@ use mathlib.Core.List.{List, [], _∷_}
 use Prim.Native.Nat.{ℕ, suc}
 use lib.Dec.{T}
 use Rattle.order.specs.Order.{Order}
-use Rattle.frame.specs.Damage.{logicalFlips, Correctable, Within}
+use Rattle.damage.specs.Flips.{logicalFlips, Correctable, Within}
 use Rattle.records.specs.Records.{valid}
 use Rattle.receiver.specs.declared.FrameResult.{FrameResult}
 use Rattle.records.specs.declared.Record.{Record}

@@ -1,5 +1,5 @@
 -- Receiving calls of the code, by value and in place: what the toolchain reads in the contract of `receiver::receive`, and what the
--- clause of `receiver::receive_in_place` says, is the model's step.
+-- clauses of `receiver::receive_in_place` say, is the model's step.
 -- Assumes nothing.
 use mathlib.Core.Path.{_≡_, refl, ap, subst⁻¹}
 use mathlib.Core.List.{List, []}
@@ -25,9 +25,9 @@ receive-had by-value given bytes = record {
 }
 receive-had in-place given bytes = (refl, refl)
 
--- the clause of the call in place says exactly that
+-- the two clauses of the call in place say exactly that
 pub in-place-says : InPlaceSays
-in-place-says M 𝓤 H κs A m run rec bytes rec′ bytes′ r = refl
+in-place-says M 𝓤 H κs A m run rec bytes rec′ bytes′ r = (refl, refl)
 
 -- the definition's answer and record are the model's step
 step-by : (given : Record) (bytes : List ℕ) (y : Received) → y ≡ receive defaultOrder given bytes

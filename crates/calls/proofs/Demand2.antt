@@ -11,16 +11,16 @@ use Rattle.order.specs.Order.{Order, frameOf, logicalBit, frameRefusal}
 use Rattle.order.proofs.Frames.{sent-bit}
 use Rattle.order.proofs.Refusals.{packed-taken, taken-back}
 use Rattle.frame.specs.Layout.{logicalOf, frame}
-use Rattle.reading.specs.Reads.{read}
+use Rattle.reading.specs.Reading.{read}
 use Rattle.reading.proofs.Extent.{read-ext}
 use Rattle.records.specs.Records.{valid}
 use Rattle.receiver.specs.Steps.{accepted, step}
 use Rattle.receiver.specs.Receiving.{receive}
 use Rattle.records.specs.declared.Record.{Record}
 use Rattle.receiver.specs.declared.Received.{Received}
-use Rattle.receiver.proofs.Yields.{resultIn}
-use Rattle.receiver.proofs.Taken.{not-refused, receive-taken}
-use Rattle.receiver.proofs.Arrived.{packed-accepted}
+use Rattle.receiver.proofs.Results.{resultIn}
+use Rattle.receiver.proofs.Refusals.{not-refused, receive-taken}
+use Rattle.damage.proofs.Arrival.{packed-accepted}
 use Rattle.calls.specs.Model.{packKind, receiveKind}
 use Rattle.calls.specs.Observed.{PackCall, packCallRefusal, sent, PackStep, ReceiveCall, frameIn, receiveCallRefusal, ReceiveStep}
 use Rattle.calls.specs.Return.{ReadsBits, Returns, DefinedReturn, CallsReturn}

@@ -7,7 +7,7 @@ use mathlib.Core.List.{List}
 use Prim.Native.Nat.{ℕ}
 use Rattle.order.specs.Order.{Order}
 use Rattle.frame.specs.Packing.{freshSync}
-use Rattle.frame.specs.Damage.{logicalFlips, Correctable, Within}
+use Rattle.damage.specs.Flips.{logicalFlips, Correctable, Within}
 use Rattle.records.specs.Records.{fresh}
 use Rattle.records.specs.declared.Record.{Record}
 use Rattle.records.proofs.Validity.{fresh-valid}

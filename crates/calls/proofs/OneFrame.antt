@@ -8,8 +8,8 @@ use lib.Dec.{T}
 use Rattle.order.specs.Order.{Order}
 use Rattle.sets.specs.Sets.{indicesIn, sendable}
 use Rattle.frame.specs.Layout.{frame}
-use Rattle.frame.specs.Damage.{logicalFlips, Correctable, Within}
-use Rattle.frame.proofs.Ordered.{arrived}
+use Rattle.damage.specs.Flips.{logicalFlips, Correctable, Within}
+use Rattle.damage.proofs.AnyOrder.{arrived}
 use Rattle.sets.specs.declared.ParameterSet.{ParameterSet}
 use Rattle.sets.specs.declared.ParameterSet.the-variants.{Unvoiced, Voiced}
 use Rattle.gain.specs.Levels.{firstLevel}
@@ -21,8 +21,8 @@ use Rattle.receiver.specs.declared.Kind.{Kind}
 use Rattle.receiver.specs.declared.Kind.the-variants as kind
 use Rattle.records.specs.declared.Record.{Record}
 use Rattle.receiver.specs.declared.Received.{Received}
-use Rattle.receiver.proofs.Yields.{resultIn}
-use Rattle.receiver.proofs.Arrived.{packed-accepted, correctable-accepted, double-repeated, voiced-kept}
+use Rattle.receiver.proofs.Results.{resultIn}
+use Rattle.damage.proofs.Arrival.{packed-accepted, correctable-accepted, double-repeated, voiced-kept}
 use Rattle.calls.specs.Frames.{CorrectableFrame, FrameClaim, SameLevels}
 
 -- a kind is unvoiced

@@ -8,13 +8,13 @@ use lib.Dec.{T}
 use Rattle.order.specs.Order.{through}
 use Rattle.sets.specs.Sets.{sendable}
 use Rattle.frame.specs.Layout.{frame}
-use Rattle.frame.proofs.Ordered.{arrived}
+use Rattle.damage.proofs.AnyOrder.{arrived}
 use Rattle.records.specs.Records.{valid}
 use Rattle.receiver.specs.Receiving.{receive}
 use Rattle.records.specs.declared.Record.{Record}
 use Rattle.receiver.specs.declared.Received.{Received}
-use Rattle.receiver.proofs.Yields.{resultIn}
-use Rattle.receiver.proofs.Taken.{not-refused-only}
+use Rattle.receiver.proofs.Results.{resultIn}
+use Rattle.receiver.proofs.Refusals.{not-refused-only}
 use Rattle.calls.specs.Model.{PackKind, ReceiveKind}
 use Rattle.calls.specs.Observed.{PackCall, setIn, packCallRefusal, sent, PackStep, PackRun}
 use Rattle.calls.specs.Observed.{ReceiveCall, frameIn, receiveCallRefusal, ReceiveStep, ReceiveRun, channel}

@@ -12,7 +12,7 @@ use Rattle.order.specs.Order.{frameRefusal}
 use Rattle.records.specs.Records.{valid}
 use Rattle.records.specs.declared.Record.{Record}
 use Rattle.receiver.specs.Receiving.{receiveRefusal, receive}
-use Rattle.receiver.proofs.Taken.{not-refused, not-refused-only}
+use Rattle.receiver.proofs.Refusals.{not-refused, not-refused-only}
 use Rattle.receiver.proofs.Validity.{receive-valid}
 use Rattle.calls.specs.Model.{receiveKind}
 use Rattle.calls.specs.Observed.{ReceiveCall, frameIn, receiveCallRefusal, ReceiveRun, keepUnless, unrefused}

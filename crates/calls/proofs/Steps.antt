@@ -2,12 +2,13 @@
 -- of a set that may be sent, and a receiving call the receiver's answer and record.
 -- Assumes nothing.
 use mathlib.Core.Path.{_≡_, refl, sym, ap, _∙_, subst}
-use mathlib.Core.Bool.{Bool, true, false, cond}
-use mathlib.Core.List.{List}
+use mathlib.Core.Bool.{Bool, true, false, not}
+use mathlib.Core.List.{List, [], _∷_}
 use Prim.Native.Nat.{ℕ, suc}
 use native.Mathlib.Omega.{arith}
 use lib.Dec.{T, ltb}
 use lib.ListN.{length}
+use Rattle.bits.specs.Refusals.{firstRefusal}
 use Rattle.sets.specs.Sets.{sendable}
 use Rattle.frame.specs.Layout.{frame}
 use Rattle.frame.specs.Packing.{packRefusal}
@@ -27,7 +28,7 @@ use Rattle.calls.specs.Observed.{ReceiveCall, frameIn, receiveCallRefusa
 sendable-only : (set : ParameterSet) (room : ℕ) → packRefusal set room ≡ 0 → T (sendable set)
 sendable-only set room e = go (ltb room 7) (sendable set) refl e
   where
-    go : (a b : Bool) → sendable set ≡ b → _≡_ {A = ℕ} (cond a 1 (cond b 0 5)) 0 → T (sendable set)
+    go : (a b : Bool) → sendable set ≡ b → firstRefusal ((a, 1) ∷ (not b, 5) ∷ []) ≡ 0 → T (sendable set)
     go true b f z = absurd (omega arith)
     go false true f z = subst T (sym f) tt
     go false false f z = absurd (omega arith)

@@ -2,7 +2,7 @@
 -- Assumes nothing.
 use Rattle.order.specs.Order.{defaultOrder}
 use Rattle.order.proofs.Default.{default-order}
-use Rattle.frame.proofs.Neighbours.{seven-neighbours}
+use Rattle.damage.proofs.Neighbours.{seven-neighbours}
 use Rattle.frame.specs.Packing.{packAnswer, packWrites}
 use Rattle.calls.specs.Observed.{PackStep, ReceiveStep}
 use Rattle.calls.specs.CodeCalls.{CodePacks, CodeReceivesBy, CodeReceives}

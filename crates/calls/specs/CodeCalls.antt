@@ -1,5 +1,5 @@
 -- Calls of the code, as they are observed: each is some call of a function of which its contract holds, by the checker's own reading
--- of its `ensures`; of a call in place, whose clause has no such reading, the two equations that the clause is (`CodeReceives.in-place-says`).
+-- of its `ensures`; of a call in place, whose clauses have no such reading, the equation that each is (`CodeReceives.in-place-says`).
 use Prim.Native.Nat.{ℕ}
 use mathlib.Core.Path.{_≡_}
 use mathlib.Core.Bool.{Bool}
@@ -56,12 +56,15 @@ pub record CodeByValue (c : ReceiveCall receiveKind) : Type 0 where
   pub observed : c ≡ receiveCall (passed .0) (passed .1 .0 .now) (gave .answer) (gave .next)
 
 -- what a call in place owes: the answer, and the record in the caller's memory afterwards
-abbrev pub InPlace : Record → List ℕ → ReceiveAnswer → Record → Type 0
-InPlace given bytes answer left = (answer ≡ receive defaultOrder given bytes .answer) × (left ≡ receive defaultOrder given bytes .next)
+abbrev pub Answered : Record → List ℕ → ReceiveAnswer → Type 0
+Answered given bytes answer = answer ≡ receive defaultOrder given bytes .answer
+
+abbrev pub Leaves : Record → List ℕ → Record → Type 0
+Leaves given bytes left = left ≡ receive defaultOrder given bytes .next
 
 -- one of `receiver::receive_in_place`
 abbrev pub CodeInPlace : ReceiveCall receiveKind → Type 0
-CodeInPlace c = InPlace (c .given) (c .arguments) (c .answer) (c .left)
+CodeInPlace c = Answered (c .given) (c .arguments) (c .answer) × Leaves (c .given) (c .arguments) (c .left)
 
 -- a receiving call of the code, made in one of two ways
 pub data Way : Type 0 where
@@ -74,9 +77,9 @@ CodeReceivesBy in-place c = CodeInPlace c
 abbrev pub CodeReceives : ReceiveCall receiveKind → Type 0
 CodeReceives c = (way : Way) × CodeReceivesBy way c
 
--- that the clause of the call in place is those two equations, of the record and the frame at entry and of the record at exit
+-- that the two clauses of the call in place are those equations, of the record and the frame at entry and of the record at exit
 abbrev pub InPlaceSays : Type 2
 InPlaceSays = (M : Type 1) (𝓤 : URA M) (H : Heap 𝓤) (κs : Lfts 2) (A : Atoms 𝓤) (m : Memory → SProp 𝓤) (run : Routine → Fun 𝓤)
     (rec : _) (bytes : _) (rec′ : _) (bytes′ : _) (r : _)
-    → place.ensures-1 𝓤 H κs A m run rec bytes rec′ bytes′ r
-    ≡ connectives 𝓤 .⌜_⌝ (InPlace (rec′ .entry .now) (bytes′ .entry .now) r (rec′ .exit .now))
+    → (place.ensures-answer 𝓤 H κs A m run rec bytes rec′ bytes′ r ≡ connectives 𝓤 .⌜_⌝ (Answered (rec′ .entry .now) (bytes′ .entry .now) r))
+    × (place.ensures-record 𝓤 H κs A m run rec bytes rec′ bytes′ r ≡ connectives 𝓤 .⌜_⌝ (Leaves (rec′ .entry .now) (bytes′ .entry .now) (rec′ .exit .now)))

@@ -8,7 +8,7 @@ use lib.Dec.{T}
 use lib.ListN.{getD}
 use Rattle.order.specs.Order.{frameOf, logicalBit, frameRefusal}
 use Rattle.sets.specs.Sets.{indicesIn}
-use Rattle.reading.specs.Reads.{read}
+use Rattle.reading.specs.Reading.{read}
 use Rattle.records.specs.Records.{valid}
 use Rattle.records.specs.declared.Record.{Record}
 use Rattle.receiver.specs.Steps.{kindOf, step}

@@ -13,10 +13,11 @@ use Rattle.order.specs.Order.{Order, placeOf, logicalBit}
 use Rattle.order.proofs.Frames.{sent-bit, received-bit}
 use Rattle.order.proofs.Refusals.{packed-taken, through-taken}
 use Rattle.sets.specs.Sets.{indicesFit, voicingFits, sendable}
-use Rattle.frame.specs.Layout.{words, others, unvoicedWords, voicedWords, logical, logicalOf, frame}
+use Rattle.frame.specs.Layout.{logicalOf, frame}
+use Rattle.frame.proofs.Places.{unvoiced-places, voiced-places}
 use Rattle.reading.specs.declared.Reading.{Reading}
 use Rattle.reading.specs.declared.Reading.the-variants.{Accepted, Erased}
-use Rattle.order.specs.Fields.{wordA, pitchBits}
+use Rattle.order.specs.Fields.{wordA, pitchBits, syncBit}
 use Rattle.reading.specs.Reading.{read}
 use Rattle.damage.specs.Flips.{logicalFlips, Correctable, protectedFlips}
 use Rattle.sets.specs.declared.Indices.{Indices}
@@ -33,8 +34,8 @@ use Rattle.receiver.specs.Receiving.{receive}
 use Rattle.receiver.specs.declared.Kind.the-variants as kind
 use Rattle.records.specs.declared.Record.{Record}
 use Rattle.receiver.specs.declared.Received.{Received}
-use Rattle.receiver.proofs.Yields.{resultIn}
-use Rattle.receiver.proofs.Taken.{not-refused, receive-taken}
+use Rattle.receiver.proofs.Results.{resultIn}
+use Rattle.receiver.proofs.Refusals.{not-refused, receive-taken}
 
 -- what is not read unvoiced has the kind voiced or repeat
 step-kind : (r : Record) (sync : Bool) (x : Reading) → T (voicedOrErased x)
@@ -49,11 +50,10 @@ sendable-pitch : (x : Indices) (v : Voicing) → T (sendable (Voiced x v)) → v
 sendable-pitch x v t =
     voicing-ranges v (and-right (indicesFit x) (voicingFits v) (and-left (indicesFit x && voicingFits v) (not (eqb (v .bandpass) 1)) t)) .pitch
 
--- logical bit 53 of a set is its sync bit
-sync-bit : (set : ParameterSet) (sync : Bool) → logicalOf set sync 53 ≡ sync
-unfolding words others unvoicedWords voicedWords logical
-sync-bit (Unvoiced x) sync = refl
-sync-bit (Voiced x v) sync = refl
+-- the sync bit of a set's logical bits
+sync-bit : (set : ParameterSet) (sync : Bool) → syncBit (logicalOf set sync) ≡ sync
+sync-bit (Unvoiced x) sync = unvoiced-places x sync .4 .4
+sync-bit (Voiced x v) sync = voiced-places x v sync .4 .4
 
 module _ (ord : List ℕ) (o : Order ord) (r : Record) (ok : T (valid r)) (sync : Bool) where
   -- demand 2: the frame of a set that a sender takes is accepted as that set, with nothing repaired and its own sync bit

@@ -9,14 +9,14 @@ use lib.ListN.{length}
 use Rattle.pitch.specs.Pitch.{index, classOf}
 use Rattle.hamming.specs.Word.{fixOf, decode}
 use Rattle.order.specs.Order.{placeOf, orderBy, defaultOrder, bitAt, logicalBit, through}
-use Rattle.reading.specs.Reads.{read}
+use Rattle.reading.specs.Reading.{read}
 use Rattle.records.specs.Records.{repeatedKind, fresh, valid, pushed, muted}
 use Rattle.receiver.specs.Steps.{repeated, step}
 use Rattle.receiver.specs.Receiving.{receive}
 use Rattle.records.specs.declared.FrameKind.{FrameKind}
 use Rattle.records.specs.declared.Record.{Record}
 use Rattle.receiver.specs.declared.Received.{Received}
-use Rattle.receiver.proofs.Taken.{not-refused, receive-taken}
+use Rattle.receiver.proofs.Refusals.{not-refused, receive-taken}
 use Rattle.records.proofs.Validity.{fresh-valid}
 use Rattle.calls.specs.Model.{outcomes, answerOf, receiveModel, receiveKind}
 use Rattle.bits.specs.Lists.{Every}

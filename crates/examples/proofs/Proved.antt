@@ -8,7 +8,7 @@ use Rattle.gain.specs.Levels.{firstLevel, firstLevelAnswer}
 use Rattle.quantiser.specs.Choice.{nearest, chosenG1, chooseAnswer}
 use Rattle.frame.specs.Layout.{words, others, unvoicedWords, logical}
 use Rattle.frame.specs.Packing.{packAnswer, packWrites}
-use Rattle.reading.specs.Reads.{read}
+use Rattle.reading.specs.Reading.{read}
 use Rattle.records.specs.Records.{fresh}
 use Rattle.receiver.specs.Steps.{accepted, repeated}
 use Rattle.receiver.specs.Receiving.{receive}

@@ -19,7 +19,7 @@ use Rattle.quantiser.specs.declared.CodesAnswer.the-variants.{Codes}
 use Rattle.gain.specs.declared.LevelAnswer.the-variants.{Level}
 use Rattle.frame.specs.Packing.{freshSync, packAnswer, packWrites}
 use Rattle.frame.specs.declared.PackAnswer.the-variants.{Packed}
-use Rattle.reading.specs.Reads.{read}
+use Rattle.reading.specs.Reading.{read}
 use Rattle.sets.specs.declared.ParameterSet.{ParameterSet}
 use Rattle.sets.specs.declared.ParameterSet.the-variants.{Unvoiced}
 use Rattle.reading.specs.declared.Reading.the-variants as reading

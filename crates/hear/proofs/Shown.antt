@@ -5,7 +5,7 @@ use Rattle.hamming.specs.Word.{fixOf, decode}
 use Rattle.order.specs.Order.{placeOf, orderBy, defaultOrder, bitAt}
 use Rattle.gain.specs.Levels.{firstLevel}
 use Rattle.frame.specs.Layout.{words, others, unvoicedWords, logical}
-use Rattle.reading.specs.Reads.{read}
+use Rattle.reading.specs.Reading.{read}
 use Rattle.records.specs.Records.{fresh}
 use Rattle.receiver.specs.Steps.{accepted, repeated}
 use Rattle.receiver.specs.Receiving.{receive}

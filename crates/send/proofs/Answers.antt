@@ -12,7 +12,7 @@ use Rattle.sets.specs.declared.ParameterSet.{ParameterSet}
 use Rattle.frame.specs.Layout.{frame}
 use Rattle.frame.specs.Packing.{packAnswer, packWrites}
 use Rattle.frame.specs.declared.PackAnswer.the-variants.{Packed, Refused}
-use Rattle.frame.proofs.Packed.{range-owes, packed-owes}
+use Rattle.frame.proofs.Answers.{range-owes, packed-owes}
 
 module _ (set : ParameterSet) (sync : Bool) (out : List ℕ) (room : 7 ≤ length out) where
   -- what is answered by whether the set is taken
