@@ -9,7 +9,7 @@ use native.Mathlib.Omega.{arith}
 use lib.Dec.{T, lit<}
 use Rattle.order.specs.Order.{Order, frameOf, logicalBit, frameRefusal}
 use Rattle.order.proofs.Frames.{sent-bit}
-use Rattle.order.proofs.Refusals.{packed-taken, taken-back}
+use Rattle.order.proofs.Refusals.{packed-taken, taken-frame-back}
 use Rattle.frame.specs.Layout.{logicalOf, frame}
 use Rattle.reading.specs.Reading.{read}
 use Rattle.reading.proofs.Extent.{read-ext}
@@ -34,7 +34,7 @@ module _ (ord : List ℕ) (o : Order ord) where
       ∙ ap₂ (step r) (sent-bit ord o g 53 (lit< tt)) (read-ext (logicalBit ord (frameOf ord g)) g (λ j h. sent-bit ord o g j (omega arith)))
 
   pub defined-return : DefinedReturn ord
-  defined-return = record { reads = bits-read; covers = taken-back ord o }
+  defined-return = record { reads = bits-read; covers = taken-frame-back ord o }
 
   -- a receiving call with a valid record that gets the frame of bits g does what the receiver does with it
   module _ (d : ReceiveCall receiveKind) (l : ReceiveStep ord d) (v : T (valid (d .given))) (g : ℕ → Bool) (f : frameIn d ≡ frameOf ord g) where

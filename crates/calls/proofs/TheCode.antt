@@ -2,7 +2,7 @@
 -- Assumes nothing.
 use Rattle.order.specs.Order.{defaultOrder}
 use Rattle.order.proofs.Default.{default-order}
-use Rattle.damage.proofs.Neighbours.{seven-neighbours}
+use Rattle.damage.proofs.Neighbours.{seven-neighbours-correctable}
 use Rattle.frame.specs.Packing.{packAnswer, packWrites}
 use Rattle.calls.specs.Observed.{PackStep, ReceiveStep}
 use Rattle.calls.specs.CodeCalls.{CodePacks, CodeReceivesBy, CodeReceives}
@@ -21,7 +21,7 @@ demand-2 = record {
 }
 
 pub demand-3 : Demand3
-demand-3 = claim defaultOrder default-order 7 seven-neighbours CodePacks code-packs CodeReceives code-receives
+demand-3 = claim defaultOrder default-order 7 seven-neighbours-correctable CodePacks code-packs CodeReceives code-receives
 
 pub sessions-had : SessionsHad
 unfolding packAnswer packWrites

@@ -15,8 +15,8 @@ pub record OneFlip (fl : ℕ → Bool) (i n : ℕ) : Type 0 where
   pub only : (j : ℕ) → i ≤ j → j < i + n → fl j ≡ true → j ≡ k
 
 -- at most one of bits 0 to 7, of 8 to 13, of 14 to 20, of 21 to 27 and of 28 to 34
-pub one-each : (fl : ℕ → Bool) → OneFlip fl 0 8 → OneFlip fl 8 6 → OneFlip fl 14 7 → OneFlip fl 21 7 → OneFlip fl 28 7 → Correctable fl
-one-each fl a b c d p = record {
+pub one-each-correctable : (fl : ℕ → Bool) → OneFlip fl 0 8 → OneFlip fl 8 6 → OneFlip fl 14 7 → OneFlip fl 21 7 → OneFlip fl 28 7 → Correctable fl
+one-each-correctable fl a b c d p = record {
   a = one-set fl (a .k) 0 8 (a .only);
   b = one-set fl (b .k) 8 6 (b .only);
   c = one-set fl (c .k) 14 7 (c .only);

@@ -59,9 +59,9 @@ module _ (n : ℕ) (fl : ℕ → Bool) (w : Within n fl) where
       go false f k ih = ih
 
 -- flips within seven neighbouring places are correctable in the default order
-pub seven-neighbours : (fl : ℕ → Bool) → Within 7 fl → Correctable (logicalFlips defaultOrder fl)
+pub seven-neighbours-correctable : (fl : ℕ → Bool) → Within 7 fl → Correctable (logicalFlips defaultOrder fl)
 unfolding placeOf orderBy defaultOrder
-seven-neighbours fl w = record {
+seven-neighbours-correctable fl w = record {
   a = spread-one 7 fl w (cut (placeOf defaultOrder) 0 8) tt;
   b = spread-one 7 fl w (cut (placeOf defaultOrder) 8 6) tt;
   c = spread-one 7 fl w (cut (placeOf defaultOrder) 14 7) tt;

@@ -30,10 +30,10 @@ abbrev pub damaged : (ℕ → Bool) → (ℕ → Bool) → ℕ → Bool
 damaged g fl j = g j ⊻ fl j
 
 -- a count of at most 1 is 1 or 0
-single : (n : ℕ) → n ≤ 1 → cond (eqb n 1) 1 0 ≡ n
-single zero h = refl
-single (suc zero) h = refl
-single (suc (suc n)) h = absurd (omega arith)
+single-count : (n : ℕ) → n ≤ 1 → cond (eqb n 1) 1 0 ≡ n
+single-count zero h = refl
+single-count (suc zero) h = refl
+single-count (suc (suc n)) h = absurd (omega arith)
 
 -- the ones of five lists joined, the last first
 ones-five : (a b c d p : List Bool) → ones (a ++ (b ++ (c ++ (d ++ p)))) ≡ ones p + ones a + ones b + ones c + ones d
@@ -71,7 +71,7 @@ module _ (x : Indices) (sync : Bool) (fl : ℕ → Bool) where
 
     pitch-count : pitchRepaired (pitchBits got) ≡ ones (pitchBits fl)
     unfolding words others unvoicedWords logical
-    pitch-count = ap (λ (n : ℕ). cond (eqb n 1) 1 0) (unvoiced-ones (pitchBits fl) refl (k .pitch)) ∙ single (ones (pitchBits fl)) (k .pitch)
+    pitch-count = ap (λ (n : ℕ). cond (eqb n 1) 1 0) (unvoiced-ones (pitchBits fl) refl (k .pitch)) ∙ single-count (ones (pitchBits fl)) (k .pitch)
 
     flips-are : pitchRepaired (pitchBits got) + ones (wordA fl) + ones (wordB fl) + ones (wordC fl) + ones (wordD fl) ≡ protectedFlips fl
     flips-are =

@@ -20,14 +20,14 @@ use Rattle.frame.proofs.SharedIndices.{l1-back, g2-back, g1-back}
 use Rattle.damage.proofs.Repair.{correctable-read}
 
 -- no flips at all
-clear : Correctable (λ j. false)
-clear = record { a = lit≤ tt; b = lit≤ tt; c = lit≤ tt; d = lit≤ tt; pitch = lit≤ tt }
+none-correctable : Correctable (λ j. false)
+none-correctable = record { a = lit≤ tt; b = lit≤ tt; c = lit≤ tt; d = lit≤ tt; pitch = lit≤ tt }
 
 module _ (x : Indices) (sync : Bool) (r : IndexRanges x) where
   unvoiced-back : read (logicalOf (Unvoiced x) sync) ≡ Accepted (Unvoiced x) 0
   unfolding words others unvoicedWords logical
   unvoiced-back =
-      correctable-read x sync (λ j. false) clear r
+      correctable-read x sync (λ j. false) none-correctable r
       ∙ (λ i. Accepted (Unvoiced (record {
         l1 = x .l1;
         l2 = value-bits 6 (x .l2) (r .l2) i;

@@ -20,11 +20,11 @@ use Rattle.order.proofs.Places.{place-lt}
 use Rattle.order.proofs.Default.{default-order}
 
 -- two bits have no ones where they stand for 0
-clear-is : (x y : Bool) → eqb (ones (x ∷ y ∷ [])) 0 ≡ eqb (value (x ∷ y ∷ [])) 0
-clear-is true true = refl
-clear-is true false = refl
-clear-is false true = refl
-clear-is false false = refl
+ones-value-zero : (x y : Bool) → eqb (ones (x ∷ y ∷ [])) 0 ≡ eqb (value (x ∷ y ∷ [])) 0
+ones-value-zero true true = refl
+ones-value-zero true false = refl
+ones-value-zero false true = refl
+ones-value-zero false false = refl
 
 module _ (bytes : List ℕ) where
   -- one byte more
@@ -41,7 +41,7 @@ module _ (bytes : List ℕ) where
 
   -- the padding is clear where the last byte is a multiple of 4
   padding-test : eqb (ones (padding bytes)) 0 ≡ eqb (getD bytes 6 0 % 4) 0
-  padding-test = clear-is (bitAt bytes 54) (bitAt bytes 55) ∙ ap (λ (x : ℕ). eqb x 0) (padding-is bytes)
+  padding-test = ones-value-zero (bitAt bytes 54) (bitAt bytes 55) ∙ ap (λ (x : ℕ). eqb x 0) (padding-is bytes)
 
   -- the answer is the one of the refusal number
   owes : (n : ℕ) → frameRefusal bytes ≡ n → bitsUnless n bytes ≡ bitsAnswer bytes

@@ -14,10 +14,10 @@ use Rattle.order.specs.Order.{times, Order, placeOf}
 use Rattle.order.proofs.Entries.{entries-lt}
 
 -- a number that stands in a list is found, at a place of the list
-found : (l : List ℕ) (j : ℕ) → (times j l ≡ 0 → ⊥) → (getD l (placeOf l j) 0 ≡ j) × (placeOf l j < length l)
+place-found : (l : List ℕ) (j : ℕ) → (times j l ≡ 0 → ⊥) → (getD l (placeOf l j) 0 ≡ j) × (placeOf l j < length l)
 unfolding placeOf
-found [] j h = absurd (h refl)
-found (x ∷ xs) j h = go (eqb x j) refl (found xs j) h
+place-found [] j h = absurd (h refl)
+place-found (x ∷ xs) j h = go (eqb x j) refl (place-found xs j) h
   where
     go : (b : Bool) → eqb x j ≡ b → ((times j xs ≡ 0 → ⊥) → (getD xs (placeOf xs j) 0 ≡ j) × (placeOf xs j < length xs)) → (addOne b (times j xs) ≡ 0 → ⊥)
         → (getD (x ∷ xs) (cond b zero (suc (placeOf xs j))) 0 ≡ j) × (cond b zero (suc (placeOf xs j)) < suc (length xs))
@@ -25,9 +25,9 @@ found (x ∷ xs) j h = go (eqb x j) refl (found xs j) h
     go false e rest h = (rest h .0, suc-le-suc (rest h .1))
 
 -- a number that stands at t is counted
-counted : (l : List ℕ) (j t : ℕ) → t < length l → getD l t 0 ≡ j → times j l ≡ 0 → ⊥
-counted [] j t h e z = not-suc-le-zero h
-counted (x ∷ xs) j t h e z = go (eqb x j) refl (counted xs j) t h e z
+entry-counted : (l : List ℕ) (j t : ℕ) → t < length l → getD l t 0 ≡ j → times j l ≡ 0 → ⊥
+entry-counted [] j t h e z = not-suc-le-zero h
+entry-counted (x ∷ xs) j t h e z = go (eqb x j) refl (entry-counted xs j) t h e z
   where
     go : (b : Bool) → eqb x j ≡ b → ((t : ℕ) → t < length xs → getD xs t 0 ≡ j → times j xs ≡ 0 → ⊥) → (t : ℕ) → t < suc (length xs)
         → getD (x ∷ xs) t 0 ≡ j → addOne b (times j xs) ≡ 0 → ⊥
@@ -44,7 +44,7 @@ place-unique (x ∷ xs) j t h e z = go (eqb x j) refl (place-unique xs j) t h e 
     go : (b : Bool) → eqb x j ≡ b → ((t : ℕ) → t < length xs → getD xs t 0 ≡ j → times j xs ≡ 1 → placeOf xs j ≡ t)
         → (t : ℕ) → t < suc (length xs) → getD (x ∷ xs) t 0 ≡ j → addOne b (times j xs) ≡ 1 → cond b zero (suc (placeOf xs j)) ≡ t
     go true eb rest zero h e z = refl
-    go true eb rest (suc t) h e z = absurd (counted xs j t (le-of-suc-le-suc h) e (omega arith))
+    go true eb rest (suc t) h e z = absurd (entry-counted xs j t (le-of-suc-le-suc h) e (omega arith))
     go false eb rest zero h e z = absurd (eqb-false x j eb e)
     go false eb rest (suc t) h e z = ap suc (rest t (le-of-suc-le-suc h) e z)
 
@@ -55,11 +55,11 @@ module _ (ord : List ℕ) (o : Order ord) where
 
   -- the bit at the place of j is j
   pub entry-back : (j : ℕ) → j < 54 → getD ord (placeOf ord j) 0 ≡ j
-  entry-back j h = found ord j (λ z. omega (arith, o .once j h)) .0
+  entry-back j h = place-found ord j (λ z. omega (arith, o .once j h)) .0
 
   -- a place is below 54
   pub place-lt : (j : ℕ) → j < 54 → placeOf ord j < 54
-  place-lt j h = omega (arith, found ord j (λ z. omega (arith, o .once j h)) .1, o .size)
+  place-lt j h = omega (arith, place-found ord j (λ z. omega (arith, o .once j h)) .1, o .size)
 
   -- the place of the bit at t is t
   pub place-back : (t : ℕ) → t < 54 → placeOf ord (getD ord t 0) ≡ t

@@ -16,13 +16,13 @@ use Rattle.order.proofs.Bytes.{place-bit}
 use Rattle.order.proofs.Frames.{frame-length, frame-padding, frame-back}
 
 -- seven bytes with clear padding are not refused
-pub taken : (bytes : List ℕ) → length bytes ≡ 7 → padding bytes ≡ false ∷ false ∷ [] → frameRefusal bytes ≡ 0
-taken bytes e p =
+pub frame-taken : (bytes : List ℕ) → length bytes ≡ 7 → padding bytes ≡ false ∷ false ∷ [] → frameRefusal bytes ≡ 0
+frame-taken bytes e p =
     rw (eq-eqb (length bytes) 7 e) (ap (λ (l : List Bool). firstRefusal ((not (eqb (ones l) 0), 3) ∷ [])) p)
 
 -- no other is taken
-pub taken-only : (bytes : List ℕ) → frameRefusal bytes ≡ 0 → (length bytes ≡ 7) × (padding bytes ≡ false ∷ false ∷ [])
-taken-only bytes r = go (eqb (length bytes) 7) (bitAt bytes 54) (bitAt bytes 55) refl r
+pub frame-taken-only : (bytes : List ℕ) → frameRefusal bytes ≡ 0 → (length bytes ≡ 7) × (padding bytes ≡ false ∷ false ∷ [])
+frame-taken-only bytes r = go (eqb (length bytes) 7) (bitAt bytes 54) (bitAt bytes 55) refl r
   where
     go : (b x y : Bool) → eqb (length bytes) 7 ≡ b → firstRefusal ((not b, 2) ∷ (not (eqb (ones (x ∷ y ∷ [])) 0), 3) ∷ []) ≡ 0
         → (length bytes ≡ 7) × (x ∷ y ∷ [] ≡ false ∷ false ∷ [])
@@ -34,7 +34,7 @@ taken-only bytes r = go (eqb (length bytes) 7) (bitAt bytes 54) (bitAt bytes 55)
 
 -- a packed frame is taken
 pub packed-taken : (ord : List ℕ) (g : ℕ → Bool) → frameRefusal (frameOf ord g) ≡ 0
-packed-taken ord g = taken (frameOf ord g) (frame-length ord g) (frame-padding ord g)
+packed-taken ord g = frame-taken (frameOf ord g) (frame-length ord g) (frame-padding ord g)
 
 -- a channel leaves seven bytes and the padding
 pub through-padding : (fl : ℕ → Bool) (bytes : List ℕ) → padding (through fl bytes) ≡ padding bytes
@@ -47,9 +47,9 @@ through-padding fl bytes =
 pub through-taken : (fl : ℕ → Bool) (bytes : List ℕ) → frameRefusal bytes ≡ 0 → frameRefusal (through fl bytes) ≡ 0
 unfolding through
 through-taken fl bytes r =
-    taken (through fl bytes) (length-cut (byteOf (λ t. bitAt bytes t ⊻ (ltb t 54 && fl t))) 0 7) (through-padding fl bytes ∙ taken-only bytes r .1)
+    frame-taken (through fl bytes) (length-cut (byteOf (λ t. bitAt bytes t ⊻ (ltb t 54 && fl t))) 0 7) (through-padding fl bytes ∙ frame-taken-only bytes r .1)
 
 -- a frame that is taken is the frame of its logical bits
-pub taken-back : (ord : List ℕ) → Order ord → (bytes : List ℕ) → ((i : ℕ) → i < 7 → getD bytes i 0 < 256) → frameRefusal bytes ≡ 0
+pub taken-frame-back : (ord : List ℕ) → Order ord → (bytes : List ℕ) → ((i : ℕ) → i < 7 → getD bytes i 0 < 256) → frameRefusal bytes ≡ 0
     → frameOf ord (logicalBit ord bytes) ≡ bytes
-taken-back ord o bytes h r = let t = taken-only bytes r in frame-back ord o bytes (t .0) h (t .1)
+taken-frame-back ord o bytes h r = let t = frame-taken-only bytes r in frame-back ord o bytes (t .0) h (t .1)

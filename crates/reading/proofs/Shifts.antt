@@ -13,8 +13,8 @@ use Rattle.bits.proofs.Digits.{bits-value}
 use Rattle.bits.proofs.Numbers.{carried-part}
 
 -- a one shifted up by less than 64 is a power of two
-pub weight : (k : ℕ) → k < 64 → 1 * 2 ^ k % 2 ^ 64 ≡ 2 ^ k
-weight k h = ap (λ (x : ℕ). x % 2 ^ 64) (one-mul (2 ^ k)) ∙ mod-eq-of-lt (pow-lt {i = k} {j = 64} h)
+pub shift-power : (k : ℕ) → k < 64 → 1 * 2 ^ k % 2 ^ 64 ≡ 2 ^ k
+shift-power k h = ap (λ (x : ℕ). x % 2 ^ 64) (one-mul (2 ^ k)) ∙ mod-eq-of-lt (pow-lt {i = k} {j = 64} h)
 
 -- k bits from a on, with c below them
 pub part-is : (a k c number : ℕ) → a + (k + c) ≡ 54 → number / 2 ^ c % 2 ^ k ≡ value (cut (carried 54 number) a k)

@@ -24,16 +24,16 @@ use Rattle.records.specs.declared.Record.{Record}
 use Rattle.receiver.specs.declared.ReceiveAnswer.the-variants.{Refused}
 
 -- the last bit of a number is its remainder
-last-bit : (n : ℕ) → eqb (n % 2) 1 ≡ carried 54 n 53
-last-bit n =
+sync-is : (n : ℕ) → eqb (n % 2) 1 ≡ carried 54 n 53
+sync-is n =
     let e : n / 1 % 2 ≡ n % 2 = omega arith in
     sym (bits-at 54 53 n (lit< tt) ∙ ap (λ (x : ℕ). eqb x 1) e)
 
 module _ (r : Record) (bytes : List ℕ) where
   -- bits are taken from a frame that is not refused, and are its logical bits
-  taken : (n : ℕ) → bitsAnswer bytes ≡ taking.Bits n → (frameRefusal bytes ≡ 0) × (n ≡ value (cut (logicalBit defaultOrder bytes) 0 54))
+  bits-taken : (n : ℕ) → bitsAnswer bytes ≡ taking.Bits n → (frameRefusal bytes ≡ 0) × (n ≡ value (cut (logicalBit defaultOrder bytes) 0 54))
   unfolding bitsAnswer
-  taken n e = go (frameRefusal bytes) refl e
+  bits-taken n e = go (frameRefusal bytes) refl e
     where
       go : (m : ℕ) → frameRefusal bytes ≡ m → bitsUnless m bytes ≡ taking.Bits n → (frameRefusal bytes ≡ 0) × (n ≡ value (cut (logicalBit defaultOrder bytes) 0 54))
       go zero f e = (f, cc)
@@ -56,12 +56,12 @@ module _ (r : Record) (bytes : List ℕ) where
   module _ (n : ℕ) (e : bitsAnswer bytes ≡ taking.Bits n) where
     -- a record out of range
     pub record-owes : valid r ≡ false → record { answer = Refused 4; next = r } ≡ receive defaultOrder r bytes
-    record-owes v = owes 4 (record-refused r bytes (taken n e .0) v)
+    record-owes v = owes 4 (record-refused r bytes (bits-taken n e .0) v)
 
     -- nothing refused
     pub step-owes : valid r ≡ true → step r (eqb (n % 2) 1) (read (carried 54 n)) ≡ receive defaultOrder r bytes
     step-owes v =
         let g : ℕ → Bool = logicalBit defaultOrder bytes in
-        let same : (j : ℕ) → j < 54 → carried 54 n j ≡ g j = λ j h. carried-back 54 g n j (taken n e .1) h in
-        ap₂ (λ (s : Bool) (x : Reading). step r s x) (last-bit n ∙ same 53 (lit< tt)) (read-ext (carried 54 n) g (λ j h. same j (omega arith)))
-        ∙ owes 0 (not-refused r bytes (taken n e .0) (T-true (valid r) v))
+        let same : (j : ℕ) → j < 54 → carried 54 n j ≡ g j = λ j h. carried-back 54 g n j (bits-taken n e .1) h in
+        ap₂ (λ (s : Bool) (x : Reading). step r s x) (sync-is n ∙ same 53 (lit< tt)) (read-ext (carried 54 n) g (λ j h. same j (omega arith)))
+        ∙ owes 0 (not-refused r bytes (bits-taken n e .0) (T-true (valid r) v))

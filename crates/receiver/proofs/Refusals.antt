@@ -13,7 +13,7 @@ use Rattle.bits.specs.Refusals.{firstRefusal}
 use Rattle.bits.proofs.Every.{true-T}
 use Rattle.bits.proofs.Refusals.{first-append}
 use Rattle.order.specs.Order.{logicalBit, frameTable, frameRefusal}
-use Rattle.order.proofs.Refusals.{taken-only}
+use Rattle.order.proofs.Refusals.{frame-taken-only}
 use Rattle.reading.specs.Reading.{read}
 use Rattle.records.specs.Records.{valid}
 use Rattle.receiver.specs.Steps.{step}
@@ -23,7 +23,7 @@ use Rattle.records.specs.declared.Record.{Record}
 -- where the frame is taken, the record decides
 record-decides : (r : Record) (bytes : List ℕ) (b : Bool) → frameRefusal bytes ≡ 0 → valid r ≡ b → receiveRefusal r bytes ≡ firstRefusal ((not b, 4) ∷ [])
 record-decides r bytes b e v =
-    let t = taken-only bytes e in
+    let t = frame-taken-only bytes e in
     rw (eq-eqb (length bytes) 7 (t .0)) (ap₂ (λ (l : List Bool) (b : Bool). firstRefusal ((not (eqb (ones l) 0), 3) ∷ (not b, 4) ∷ [])) (t .1) v)
 
 -- a record out of range is refused

@@ -4,13 +4,13 @@ use Prim.Native.Nat.{ℕ, _+_, _*_, _-_, _/_, _%_, _^_, _≤_, _<_}
 use native.Mathlib.Nat.{mod-lt}
 use native.Mathlib.Omega.{arith}
 use lib.Pow.{pow-pos, pow-mono}
-use Rattle.reading.proofs.Shifts.{weight, part-is}
+use Rattle.reading.proofs.Shifts.{shift-power, part-is}
 use Rattle.reading.proofs.parts.part.Statement.{statement}
 use Rattle.reading.proofs.parts.part.Tie as tie
 
 -- the divisor is the power of two
 divisor : (c : tie.Start) → 1 * 2 ^ c .args .count % 2 ^ 64 ≡ 2 ^ c .args .count
-divisor c = weight (c .args .count) (omega arith)
+divisor c = shift-power (c .args .count) (omega arith)
 
 -- the remainder stays below it
 rest-lt : (c : tie.Start) (x : ℕ) → x % (1 * 2 ^ c .args .count % 2 ^ 64) < 2 ^ c .args .count
