@@ -18,7 +18,8 @@ fn fix_of(n: usize, syndrome: u8) -> u8
 
 // The weight of the lowest data bit: the parity bits stand below it.
 fn data_weight(n: usize) -> u8
-    ensures { λ r. ⌜ (r ≡ 2 ^ checkBits n) × (0 < r) ⌝ }
+    ensures equal { λ r. ⌜ r ≡ 2 ^ checkBits n ⌝ }
+    ensures positive { λ r. ⌜ 0 < r ⌝ }
 {
     if n == 8 { 16 } else { 8 }
 }
