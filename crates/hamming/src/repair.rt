@@ -1,4 +1,4 @@
-// Reading a received word: its syndrome tells the bit to flip back, if any.
+// The outcome of a received word by its syndrome, which tells the bit to flip back, if any.
 use crate::Decoded;
 use crate::WordLength;
 use crate::parity::parity_of;
@@ -32,7 +32,7 @@ fn flipped(n: usize, word: u8, k: usize) -> u8
     word ^ (1 << (n - 1 - k))
 }
 
-// A word of n bits.
+// The outcome of a word of n bits: the table is asked at its syndrome.
 fn decode_word(length: WordLength, n: usize, word: u8) -> Decoded
     requires { ⌜ (n ≡ lengthOf length) × (word < 2 ^ n) ⌝ }
     ensures { λ r. ⌜ r ≡ decode n (bits n word) ⌝ }
@@ -49,7 +49,7 @@ fn decode_word(length: WordLength, n: usize, word: u8) -> Decoded
     Decoded::Read(flipped(n, word, fix as usize) / weight, 1)
 }
 
-// The word in the low bits of a number.
+// The outcome of the word in the low bits of a number.
 pub fn decode(length: WordLength, word: u8) -> Decoded
     ensures { λ r. ⌜ r ≡ decode (lengthOf length) (bits (lengthOf length) word) ⌝ }
 {

@@ -1,5 +1,5 @@
 -- `hamming::parity::all_parity` meets its contract: the sums are the parity equations. Assumes nothing.
-use Rattle.hamming.proofs.Parities.{sums-are}
+use Rattle.hamming.proofs.Parities.{sums-is}
 use borrow.Author.Needs.{needs}
 use Rattle.hamming.proofs.parity.all_parity.Statement.{statement}
 use Rattle.hamming.proofs.parity.all_parity.Tie as tie
@@ -47,7 +47,7 @@ add-result-3 : tie.Need-add-result-3
 add-result-3 c = search needs
 
 returns : tie.Need-returns
-returns c = sums-are (c .args .u) (c .pre)
+returns c = sums-is (c .args .u) (c .pre)
 
 pub all-parity-spec : {M : Type 1} → statement M
 all-parity-spec =
