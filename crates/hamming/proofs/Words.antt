@@ -3,7 +3,7 @@
 use mathlib.Core.Path.{_≡_, refl, sym, ap, ap₂, _∙_, subst}
 use mathlib.Core.Bool.{Bool}
 use mathlib.Core.List.{List, [], _∷_}
-use Prim.Native.Nat.{ℕ, zero, suc, _+_, _/_, _%_, _^_, _≤_, _<_, suc-le-suc}
+use Prim.Native.Nat.{ℕ, zero, suc, _+_, _/_, _%_, _^_, _≤_, _<_}
 use native.Mathlib.Nat.{mod-lt, lt-of-lt-of-le}
 use lib.Dec.{eqb, eqb→eq, leb, leb→le}
 use lib.Bits.{bitXor}
@@ -93,5 +93,5 @@ module _ (n : ℕ) (l : 6 ≤ n) (m : n ≤ 8) where
   -- the syndrome is received parity plus that of the data
   pub syndrome-is : (w : ℕ) → bits (checkBits n) (bitXor (w % 2 ^ checkBits n) (expected w)) ≡ syndrome n (bits n w)
   syndrome-is w =
-      xor-bits (checkBits n) _ _ (suc-le-suc check-le) (received-lt w) (expected-lt w)
+      xor-bits (checkBits n) _ _
       ∙ ap₂ _⊕_ (bits-mod (checkBits n) w ∙ sym (received-bits w)) (expected-bits w)

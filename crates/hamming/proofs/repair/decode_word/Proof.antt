@@ -1,7 +1,7 @@
 -- `hamming::repair::decode_word` meets its contract: the entry at the syndrome decides the outcome. Assumes nothing.
 use mathlib.Core.Path.{_≡_, sym, ap, _∙_, subst}
 use Prim.Native.Nat.{ℕ, _/_, _≤_}
-use borrow.Author.Needs.{needs}
+use native.Mathlib.Omega.{arith}
 use Rattle.bits.specs.Bits.{value, bits}
 use Rattle.hamming.specs.Word.{dataBits, parityOf, syndrome, fixOf}
 use Rattle.hamming.specs.Table.{entryOf}
@@ -38,16 +38,16 @@ entry-is c =
     (w .data-weight .ensures .0) (parity-is (c .before)) (c .fix-of .ensures)
 
 data-weight-requires : tie.Need-data-weight-requires
-data-weight-requires c κs = search needs
+data-weight-requires c κs = omega arith
 
 rem-syndrome : tie.Need-rem-syndrome
-rem-syndrome c = search needs
+rem-syndrome c = omega arith
 
 div-parity-of : tie.Need-div-parity-of
-div-parity-of c = search needs
+div-parity-of c = omega arith
 
 parity-of-requires : tie.Need-parity-of-requires
-parity-of-requires c κs = search needs
+parity-of-requires c κs = omega arith
 
 fix-of-requires : tie.Need-fix-of-requires
 fix-of-requires c κs =
@@ -63,7 +63,7 @@ returns c =
     outcome.erase-is (s .args .n) (least s) (most s) (s .args .word) (s .pre .1) (f .fix-of .result) (entry-is f) (c .if1 .taken)
 
 div-t11 : tie.Need-div-t11
-div-t11 c = search needs
+div-t11 c = omega arith
 
 returns-2 : tie.Need-returns-2
 returns-2 c =
@@ -74,7 +74,7 @@ returns-2 c =
     ∙ outcome.stand-is (s .args .n) (least s) (most s) (s .args .word) (s .pre .1) (f .fix-of .result) (entry-is f) (c .if2 .taken)
 
 cast-flipped : tie.Need-cast-flipped
-cast-flipped c = search needs
+cast-flipped c = omega arith
 
 flipped-requires : tie.Need-flipped-requires
 flipped-requires c κs =
@@ -84,7 +84,7 @@ flipped-requires c κs =
     (least s, most s, inside (c .before .if1 .left) (c .if2 .left), s .pre .1)
 
 div-t8 : tie.Need-div-t8
-div-t8 c = search needs
+div-t8 c = omega arith
 
 returns-3 : tie.Need-returns-3
 returns-3 c =
