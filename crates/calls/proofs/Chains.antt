@@ -23,7 +23,7 @@ use Rattle.receiver.specs.declared.Received.{Received}
 use Rattle.receiver.proofs.Results.{resultIn, step-answers, accepted-valid}
 use Rattle.damage.proofs.Arrival.{packed-accepted, arrived-taken}
 use Rattle.calls.specs.Model.{Answer, done, Outcome, outcomes, PackKind, ReceiveKind, outcomeOf, receiveModel, receiveKind}
-use Rattle.calls.specs.Observed.{sent}
+use Rattle.calls.specs.Calls.{sent}
 use Rattle.calls.specs.Frames.{Row, setOf}
 use Rattle.calls.proofs.Rows.{Known, Chain, got}
 
@@ -57,8 +57,8 @@ module _ (ord : List ℕ) (o : Order ord) {P : PackKind} {R : ReceiveKind} where
   clean-takes r u w k v = packed-accepted ord o u v (w .packing .given) (setOf w) (k .may-send)
 
   -- and keeps a valid record
-  pub clean-stays : (r u : Record) (w : Row P R) → Known ord r u w → T (valid u) → T (valid (receive ord u (frame ord (setOf w) (w .packing .given)) .next))
-  clean-stays r u w k v =
+  pub clean-valid : (r u : Record) (w : Row P R) → Known ord r u w → T (valid u) → T (valid (receive ord u (frame ord (setOf w) (w .packing .given)) .next))
+  clean-valid r u w k v =
       subst⁻¹ (λ (y : Received). T (valid (y .next))) (clean-takes r u w k v)
       (accepted-valid u (w .packing .given) (setOf w) 0 (sendable-fits (setOf w) (k .may-send)))
 
@@ -77,5 +77,5 @@ module _ (ord : List ℕ) (o : Order ord) {P : PackKind} {R : ReceiveKind} where
       let state = ap (λ (y : Outcome FrameResult Record). y .state) moved in
       let rest =
       subst⁻¹ (λ (t : Record). map (λ y. y .answer) (outcomes (receiveModel receiveKind ord) t (map (λ x. sent (x .packing)) ws)) ≡ map (λ x. done (x .clean)) ws)
-      state (chain-clean _ _ _ ws (h .2) (clean-stays r u w k v)) in
+      state (chain-clean _ _ _ ws (h .2) (clean-valid r u w k v)) in
       λ i. here i ∷ rest i

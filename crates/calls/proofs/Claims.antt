@@ -13,9 +13,9 @@ use Rattle.records.specs.declared.Record.{Record}
 use Rattle.calls.specs.Model.{PackKind, ReceiveKind}
 use Rattle.calls.specs.Frames.{Row, setOf, FrameClaim, RowClaim, CorrectableFrame, SameLevels, PairClaim}
 use Rattle.bits.specs.Lists.{Every, Successive}
-use Rattle.calls.proofs.OneFrame.{frame-claim, same-g2, same-levels}
+use Rattle.calls.proofs.OneFrame.{frame-claim, g2-same, levels-same}
 use Rattle.calls.proofs.Rows.{Known, Chain}
-use Rattle.calls.proofs.Chains.{clean-stays}
+use Rattle.calls.proofs.Chains.{clean-valid}
 
 module _ (ord : List ℕ) (o : Order ord) (width : ℕ) (spread : (fl : ℕ → Bool) → Within width fl → Correctable (logicalFlips ord fl))
     {P : PackKind} {R : ReceiveKind} where
@@ -30,12 +30,12 @@ module _ (ord : List ℕ) (o : Order ord) (width : ℕ) (spread : (fl : ℕ → 
   chain-frames r u flips (w ∷ ws) h = (row-claim r u w (h .0), chain-frames _ _ _ ws (h .2))
 
   -- the levels of a row whose receivers have the same G2
-  levels : (r u : Record) (w : Row P R) → Known ord r u w → T (valid u) → r .g2 ≡ u .g2 → CorrectableFrame ord (setOf w) (w .flips)
+  row-levels : (r u : Record) (w : Row P R) → Known ord r u w → T (valid u) → r .g2 ≡ u .g2 → CorrectableFrame ord (setOf w) (w .flips)
       → SameLevels (w .result) (w .clean)
-  levels r u w k v q c =
+  row-levels r u w k v q c =
       subst⁻¹ (λ (y : FrameResult). SameLevels y (w .clean)) (k .result-is)
       (subst⁻¹ (SameLevels _) (k .clean-is)
-      (same-levels ord o width spread (w .packing .given) (w .flips) r (k .is-valid) u v (setOf w) (k .may-send) q c))
+      (levels-same ord o width spread (w .packing .given) (w .flips) r (k .is-valid) u v (setOf w) (k .may-send) q c))
 
   -- every row after another: a correctable frame leaves both receivers the same G2
   pub chain-pairs : (r u : Record) (flips : ℕ → ℕ → Bool) (ws : List (Row P R)) → Chain ord r u flips ws → T (valid u) → Successive (PairClaim ord) ws
@@ -43,8 +43,8 @@ module _ (ord : List ℕ) (o : Order ord) (width : ℕ) (spread : (fl : ℕ → 
   chain-pairs r u flips (w ∷ []) h v = tt
   chain-pairs r u flips (x ∷ w ∷ ws) h v =
       let k = h .0 in
-      let stays = clean-stays ord o r u x k v in (
-        λ c d. levels _ _ w (h .2 .0) stays
-            (same-g2 ord o width spread (x .packing .given) (x .flips) r (k .is-valid) u v (setOf x) (k .may-send) c) d,
+      let stays = clean-valid ord o r u x k v in (
+        λ c d. row-levels _ _ w (h .2 .0) stays
+            (g2-same ord o width spread (x .packing .given) (x .flips) r (k .is-valid) u v (setOf x) (k .may-send) c) d,
         chain-pairs _ _ (λ j. flips (suc j)) (w ∷ ws) (h .2) stays,
       )

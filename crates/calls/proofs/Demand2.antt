@@ -22,7 +22,7 @@ use Rattle.receiver.proofs.Results.{resultIn}
 use Rattle.receiver.proofs.Refusals.{not-refused, receive-taken}
 use Rattle.damage.proofs.Arrival.{packed-accepted}
 use Rattle.calls.specs.Model.{packKind, receiveKind}
-use Rattle.calls.specs.Observed.{PackCall, packCallRefusal, sent, PackStep, ReceiveCall, frameIn, receiveCallRefusal, ReceiveStep}
+use Rattle.calls.specs.Calls.{PackCall, packCallRefusal, sent, PackStep, ReceiveCall, frameIn, receiveCallRefusal, ReceiveStep}
 use Rattle.calls.specs.Return.{ReadsBits, Returns, DefinedReturn, CallsReturn}
 use Rattle.calls.proofs.Steps.{pack-sendable, pack-sent, receive-answer, receive-left}
 
@@ -38,21 +38,21 @@ module _ (ord : List ℕ) (o : Order ord) where
 
   -- a receiving call with a valid record that gets the frame of bits g does what the receiver does with it
   module _ (d : ReceiveCall receiveKind) (l : ReceiveStep ord d) (v : T (valid (d .given))) (g : ℕ → Bool) (f : frameIn d ≡ frameOf ord g) where
-    not-refused-here : receiveCallRefusal d ≡ 0
-    not-refused-here = not-refused (d .given) (frameIn d) (ap frameRefusal f ∙ packed-taken ord g) v
+    call-taken : receiveCallRefusal d ≡ 0
+    call-taken = not-refused (d .given) (frameIn d) (ap frameRefusal f ∙ packed-taken ord g) v
 
     module _ (y : Received) (e : receive ord (d .given) (frameOf ord g) ≡ y) where
-      gets-answer : d .answer ≡ y .answer
-      gets-answer = receive-answer ord d l not-refused-here ∙ ap (λ (x : Received). x .answer) (ap (receive ord (d .given)) f ∙ e)
+      call-answer : d .answer ≡ y .answer
+      call-answer = receive-answer ord d l call-taken ∙ ap (λ (x : Received). x .answer) (ap (receive ord (d .given)) f ∙ e)
 
-      gets-record : d .left ≡ y .next
-      gets-record = receive-left ord d l not-refused-here ∙ ap (λ (x : Received). x .next) (ap (receive ord (d .given)) f ∙ e)
+      call-record : d .left ≡ y .next
+      call-record = receive-left ord d l call-taken ∙ ap (λ (x : Received). x .next) (ap (receive ord (d .given)) f ∙ e)
 
   call-reads : (d : ReceiveCall receiveKind) → ReceiveStep ord d → T (valid (d .given)) → (g : ℕ → Bool) → frameIn d ≡ frameOf ord g → ReadsBits g d
   call-reads d l v g f =
       let y : Received = step (d .given) (g 53) (read g) in
       let e = bits-read (d .given) v g in
-      record { answer = gets-answer d l v g f y e; left = gets-record d l v g f y e }
+      record { answer = call-answer d l v g f y e; left = call-record d l v g f y e }
 
   packed-returns : (c : PackCall packKind) (d : ReceiveCall receiveKind) → PackStep ord c → ReceiveStep ord d → packCallRefusal c ≡ 0 → T (valid (d .given))
       → frameIn d ≡ sent c → Returns c d
@@ -62,10 +62,10 @@ module _ (ord : List ℕ) (o : Order ord) where
       let y : Received = accepted (d .given) (c .given) set 0 in
       let same : frameIn d ≡ frame ord set (c .given) = f ∙ pack-sent ord c k e in
       let there = packed-accepted ord o (d .given) v (c .given) set (pack-sendable ord c k e) in
-      let left = gets-record d l v (logicalOf set (c .given)) same y there in
+      let left = call-record d l v (logicalOf set (c .given)) same y there in
       record {
         result = resultIn (y .answer);
-        answered = gets-answer d l v (logicalOf set (c .given)) same y there;
+        answered = call-answer d l v (logicalOf set (c .given)) same y there;
         kind = refl;
         set = refl;
         sync = refl;

@@ -12,12 +12,12 @@ use Rattle.records.specs.Records.{fresh}
 use Rattle.records.specs.declared.Record.{Record}
 use Rattle.records.proofs.Validity.{fresh-valid}
 use Rattle.calls.specs.Model.{PackKind, packModel, ReceiveKind, receiveModel}
-use Rattle.calls.specs.Observed.{PackCall, packCallRefusal, packLeft, packOutcome, lentAfter, PackStep}
-use Rattle.calls.specs.Observed.{ReceiveCall, receiveCallRefusal, receiveOutcome, ReceiveStep, unrefused}
+use Rattle.calls.specs.Calls.{PackCall, packCallRefusal, packLeft, packOutcome, lentAfter, PackStep}
+use Rattle.calls.specs.Calls.{ReceiveCall, receiveCallRefusal, receiveOutcome, ReceiveStep, unrefused}
 use Rattle.calls.specs.Claim.{Session, Claim}
-use Rattle.calls.proofs.Runs.{run-outcomes, run-weaken, run-every, run-unrefused}
+use Rattle.calls.proofs.Runs.{run-outcomes, run-weaker, run-every, run-unrefused}
 use Rattle.calls.proofs.Steps.{pack-leaves, receive-leaves}
-use Rattle.calls.proofs.Rows.{Aligned, aligned}
+use Rattle.calls.proofs.Rows.{Aligned, calls-aligned}
 use Rattle.calls.proofs.Chains.{chain-flips, chain-answers, chain-clean}
 use Rattle.calls.proofs.Claims.{chain-frames, chain-pairs}
 
@@ -27,7 +27,7 @@ module _ (ord : List ℕ) (o : Order ord) (width : ℕ) (spread : (fl : ℕ → 
   -- the calls that are not refused, in rows
   frames : Aligned ord start fresh flips (unrefused packCallRefusal ps) (unrefused receiveCallRefusal rs)
   frames =
-      aligned ord freshSync start fresh flips (unrefused packCallRefusal ps) (unrefused receiveCallRefusal rs)
+      calls-aligned ord freshSync start fresh flips (unrefused packCallRefusal ps) (unrefused receiveCallRefusal rs)
       (run-unrefused (λ c. c .given) packLeft (PackStep ord) packCallRefusal (λ c n k. pack-leaves ord c k n) freshSync ps (s .packing))
       (run-unrefused (λ c. c .given) (λ c. c .left) (ReceiveStep ord) receiveCallRefusal (λ c n k. receive-leaves ord c k n) start rs (s .receiving))
       (s .delivered)
@@ -63,7 +63,7 @@ module _ (ord : List ℕ) (o : Order ord) (width : ℕ) (spread : (fl : ℕ → 
   pub claim : (ps : List (PackCall P)) (flips : ℕ → ℕ → Bool) (rs : List (ReceiveCall R)) (start : Record) → Session Packs Receives ps flips rs start
       → Claim ord width ps flips rs start
   claim ps flips rs start s = steps-claim ord o width spread ps flips rs start (record {
-    packing = run-weaken (λ c. c .given) packLeft Packs (PackStep ord) packs freshSync ps (s .packing);
-    receiving = run-weaken (λ c. c .given) (λ c. c .left) Receives (ReceiveStep ord) receives start rs (s .receiving);
+    packing = run-weaker (λ c. c .given) packLeft Packs (PackStep ord) packs freshSync ps (s .packing);
+    receiving = run-weaker (λ c. c .given) (λ c. c .left) Receives (ReceiveStep ord) receives start rs (s .receiving);
     delivered = s .delivered;
   })

@@ -6,8 +6,8 @@ pub mod Rows
 pub mod Chains
 pub mod Claims
 pub mod Demand3
-pub mod CodePacks
-pub mod CodeReceives
-pub mod Served
+pub mod PackingCalls
+pub mod ReceivingCalls
+pub mod Scripts
 pub mod Sessions
-pub mod TheCode
+pub mod Demands

@@ -71,18 +71,18 @@ module _ (ord : List ℕ) (o : Order ord) (width : ℕ) (spread : (fl : ℕ → 
 
     -- beside a receiver that gets the frame as sent: the same G2 is accepted, and where the G2 before was the same the levels are
     module _ (u : Record) (clean : T (valid u)) where
-      pub same-g2 : (set : ParameterSet) → T (sendable set) → CorrectableFrame ord set fl
+      pub g2-same : (set : ParameterSet) → T (sendable set) → CorrectableFrame ord set fl
           → receive ord r (arrived ord set sync fl) .next .g2 ≡ receive ord u (frame ord set sync) .next .g2
       unfolding accepted
-      same-g2 (Unvoiced x) t k =
+      g2-same (Unvoiced x) t k =
           ap (λ (y : Received). y .next .g2) (correctable-accepted ord o r ok sync fl x t (k .few))
           ∙ sym (ap (λ (y : Received). y .next .g2) (packed-accepted ord o u clean sync (Unvoiced x) t))
-      same-g2 (Voiced x v) t k = absurd (unvoiced≢voiced (sym (k .unvoiced)))
+      g2-same (Voiced x v) t k = absurd (unvoiced≢voiced (sym (k .unvoiced)))
 
-      pub same-levels : (set : ParameterSet) → T (sendable set) → r .g2 ≡ u .g2 → CorrectableFrame ord set fl
+      pub levels-same : (set : ParameterSet) → T (sendable set) → r .g2 ≡ u .g2 → CorrectableFrame ord set fl
           → SameLevels (resultOf r set) (cleanOf u set)
       unfolding accepted
-      same-levels (Unvoiced x) t q k =
+      levels-same (Unvoiced x) t q k =
           let here = correctable-accepted ord o r ok sync fl x t (k .few) in
           let there = packed-accepted ord o u clean sync (Unvoiced x) t in
           record {
@@ -92,4 +92,4 @@ module _ (ord : List ℕ) (o : Order ord) (width : ℕ) (spread : (fl : ℕ → 
                 ∙ sym (ap (λ (y : Received). resultIn (y .answer) .first) there);
             second = ap (λ (y : Received). resultIn (y .answer) .second) here ∙ sym (ap (λ (y : Received). resultIn (y .answer) .second) there);
           }
-      same-levels (Voiced x v) t q k = absurd (unvoiced≢voiced (sym (k .unvoiced)))
+      levels-same (Voiced x v) t q k = absurd (unvoiced≢voiced (sym (k .unvoiced)))

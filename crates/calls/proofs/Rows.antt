@@ -16,8 +16,8 @@ use Rattle.receiver.specs.declared.Received.{Received}
 use Rattle.receiver.proofs.Results.{resultIn}
 use Rattle.receiver.proofs.Refusals.{not-refused-only}
 use Rattle.calls.specs.Model.{PackKind, ReceiveKind}
-use Rattle.calls.specs.Observed.{PackCall, setIn, packCallRefusal, sent, PackStep, PackRun}
-use Rattle.calls.specs.Observed.{ReceiveCall, frameIn, receiveCallRefusal, ReceiveStep, ReceiveRun, channel}
+use Rattle.calls.specs.Calls.{PackCall, setIn, packCallRefusal, sent, PackStep, PackRun}
+use Rattle.calls.specs.Calls.{ReceiveCall, frameIn, receiveCallRefusal, ReceiveStep, ReceiveRun, channel}
 use Rattle.calls.specs.Frames.{Row, setOf}
 use Rattle.calls.proofs.Steps.{pack-sendable, pack-sent, receive-answer, receive-left}
 
@@ -84,15 +84,15 @@ module _ (ord : List ℕ) {P : PackKind} {R : ReceiveKind} where
     pub chain : Chain r u flips rows
 
   -- where the receiving calls get exactly what the channel hands on, there are such rows
-  pub aligned : (s : Bool) (r u : Record) (flips : ℕ → ℕ → Bool) (ps : List (PackCall P)) (qs : List (ReceiveCall R))
+  pub calls-aligned : (s : Bool) (r u : Record) (flips : ℕ → ℕ → Bool) (ps : List (PackCall P)) (qs : List (ReceiveCall R))
       → PackRun (PacksFrame ord) s ps → ReceiveRun (TakesFrame ord) r qs → map frameIn qs ≡ channel flips (map sent ps) → Aligned r u flips ps qs
-  aligned s r u flips [] [] h j e = record { rows = []; packings = refl; receivings = refl; chain = tt }
-  aligned s r u flips [] (q ∷ qs) h j e = absurd (cons≢nil e)
-  aligned s r u flips (p ∷ ps) [] h j e = absurd (nil≢cons e)
-  aligned s r u flips (p ∷ ps) (q ∷ qs) h j e =
+  calls-aligned s r u flips [] [] h j e = record { rows = []; packings = refl; receivings = refl; chain = tt }
+  calls-aligned s r u flips [] (q ∷ qs) h j e = absurd (cons≢nil e)
+  calls-aligned s r u flips (p ∷ ps) [] h j e = absurd (nil≢cons e)
+  calls-aligned s r u flips (p ∷ ps) (q ∷ qs) h j e =
       let here : Known r u (rowOf u (flips 0) p q) = row-known r u (flips 0) p q (h .1) (j .1) (j .0) (head-eq-of-cons-eq e) in
       let goes-on = subst (λ (y : Record). ReceiveRun (TakesFrame ord) y qs) (here .leaves) (j .2) in
-      let rest = aligned _ _ (receive ord u (frame ord (setIn p) (p .given)) .next) (λ k. flips (suc k)) ps qs (h .2) goes-on (tail-eq-of-cons-eq e) in
+      let rest = calls-aligned _ _ (receive ord u (frame ord (setIn p) (p .given)) .next) (λ k. flips (suc k)) ps qs (h .2) goes-on (tail-eq-of-cons-eq e) in
       record {
         rows = rowOf u (flips 0) p q ∷ rest .rows;
         packings = ap (λ (l : List (PackCall P)). p ∷ l) (rest .packings);

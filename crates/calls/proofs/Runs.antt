@@ -5,7 +5,7 @@ use mathlib.Core.Path.{_≡_, refl, sym, ap, _∙_, subst}
 use mathlib.Core.List.{List, [], _∷_, map}
 use Prim.Native.Nat.{ℕ, zero, suc}
 use Rattle.calls.specs.Model.{Outcome, outcomes}
-use Rattle.calls.specs.Observed.{Run, keepUnless, unrefused}
+use Rattle.calls.specs.Calls.{Run, keepUnless, unrefused}
 use Rattle.bits.specs.Lists.{Every}
 
 module _ {C S : Type 0} (given left : C → S) (Keeps : C → Type 0) where
@@ -21,9 +21,9 @@ module _ {C S : Type 0} (given left : C → S) (Keeps : C → Type 0) where
       λ i. here i ∷ rest i
 
   -- contracts that imply others
-  pub run-weaken : (Weaker : C → Type 0) → ((c : C) → Keeps c → Weaker c) → (s : S) (cs : List C) → Run given left Keeps s cs → Run given left Weaker s cs
-  run-weaken Weaker keeps s [] h = tt
-  run-weaken Weaker keeps s (c ∷ cs) h = (h .0, keeps c (h .1), run-weaken Weaker keeps (left c) cs (h .2))
+  pub run-weaker : (Weaker : C → Type 0) → ((c : C) → Keeps c → Weaker c) → (s : S) (cs : List C) → Run given left Keeps s cs → Run given left Weaker s cs
+  run-weaker Weaker keeps s [] h = tt
+  run-weaker Weaker keeps s (c ∷ cs) h = (h .0, keeps c (h .1), run-weaker Weaker keeps (left c) cs (h .2))
 
   -- what each contract gives holds of every call
   pub run-every : (P : C → Type 0) → ((c : C) → Keeps c → P c) → (s : S) (cs : List C) → Run given left Keeps s cs → Every P cs

@@ -15,13 +15,13 @@ use Rattle.frame.specs.Packing.{freshSync, packRefusal, packedUnless}
 use Rattle.records.specs.Records.{valid}
 use Rattle.records.specs.declared.Record.{Record}
 use Rattle.calls.specs.Model.{PackArguments, packKind, receiveKind}
-use Rattle.calls.specs.Observed.{PackCall, packCallRefusal, packLeft, sent, PackStep, PackRun, ReceiveCall, unrefused, channel}
+use Rattle.calls.specs.Calls.{PackCall, packCallRefusal, packLeft, sent, PackStep, PackRun, ReceiveCall, unrefused, channel}
 use Rattle.calls.specs.Script.{Wish, nexts, Script, Had}
 use Rattle.calls.specs.CodeCalls.{packCall}
-use Rattle.calls.proofs.Runs.{run-every, run-unrefused, run-weaken, unrefused-map}
+use Rattle.calls.proofs.Runs.{run-every, run-unrefused, run-weaker, unrefused-map}
 use Rattle.calls.proofs.Steps.{pack-sent, pack-leaves}
 use Rattle.calls.proofs.Rows.{PacksFrame}
-use Rattle.calls.proofs.Served.{receiveOne, serve}
+use Rattle.calls.proofs.Scripts.{receiveOne, script-served}
 
 -- the refusal of packing by the arguments alone
 abbrev argumentsRefusal : PackArguments → ℕ
@@ -77,13 +77,13 @@ module _ (ord : List ℕ) where
         → Had Packs Receives xs flips script start
     sessions xs flips script start v w =
         let ps : List (PackCall packKind) = packAll freshSync xs in
-        let steps = run-weaken (λ c. c .given) packLeft Packs (PackStep ord) packs freshSync ps (pack-runs freshSync xs) in
+        let steps = run-weaker (λ c. c .given) packLeft Packs (PackStep ord) packs freshSync ps (pack-runs freshSync xs) in
         let kept = run-unrefused (λ c. c .given) packLeft (PackStep ord) packCallRefusal (λ c n k. pack-leaves ord c k n) freshSync ps steps in
         let all = run-every (λ c. c .given) packLeft (PacksFrame ord) (PacksFrame ord) (λ c k. k) freshSync (unrefused packCallRefusal ps) kept in
         let frames : List (List ℕ) = channel flips (map sent (unrefused packCallRefusal ps)) in
         let count : length frames ≡ length (unrefused argumentsRefusal xs) =
         frames-length flips ps ∙ ap (λ (l : List PackArguments). length (unrefused argumentsRefusal l)) (pack-arguments freshSync xs) in
-        let served = serve ord Receives receive-had start script frames v (w .as-many ∙ sym count) (w .others) (delivered-taken flips (unrefused packCallRefusal ps) all) in
+        let served = script-served ord Receives receive-had start script frames v (w .as-many ∙ sym count) (w .others) (delivered-taken flips (unrefused packCallRefusal ps) all) in
         record {
           packs = ps;
           receives = served .receives;

@@ -21,8 +21,8 @@ use Rattle.records.specs.declared.Record.{Record}
 use Rattle.receiver.specs.declared.ReceiveAnswer.{ReceiveAnswer}
 use Rattle.receiver.specs.declared.ReceiveAnswer.the-variants as answer
 use Rattle.calls.specs.Model.{Answer, done, refused, Outcome, PackKind, packUnless, ReceiveKind, answerOf, outcomeOf}
-use Rattle.calls.specs.Observed.{PackCall, setIn, packCallRefusal, packLeft, sent, packAnswerOf, packOutcome, PackStep}
-use Rattle.calls.specs.Observed.{ReceiveCall, frameIn, receiveCallRefusal, receiveOutcome, ReceiveStep}
+use Rattle.calls.specs.Calls.{PackCall, setIn, packCallRefusal, packLeft, sent, packAnswerOf, packOutcome, PackStep}
+use Rattle.calls.specs.Calls.{ReceiveCall, frameIn, receiveCallRefusal, receiveOutcome, ReceiveStep}
 
 -- a set that packing does not refuse may be sent
 sendable-only : (set : ParameterSet) (room : ℕ) → packRefusal set room ≡ 0 → T (sendable set)
@@ -38,32 +38,32 @@ valueOr : {A : Type 0} → A → Answer A → A
 valueOr d (done x) = x
 valueOr d (refused n) = d
 
-bytes-in : (a : PackAnswer) (bytes : List ℕ) → valueOr bytes (packAnswerOf a bytes) ≡ bytes
+bytes-back : (a : PackAnswer) (bytes : List ℕ) → valueOr bytes (packAnswerOf a bytes) ≡ bytes
 unfolding valueOr
-bytes-in (Packed next) bytes = refl
-bytes-in (Refused n) bytes = refl
+bytes-back (Packed next) bytes = refl
+bytes-back (Refused n) bytes = refl
 
 -- an answer of the model as the call's own
 back : Answer FrameResult → ReceiveAnswer
 back (done x) = answer.Result x
 back (refused n) = answer.Refused n
 
-back-is : (a : ReceiveAnswer) → back (answerOf a) ≡ a
+answer-back : (a : ReceiveAnswer) → back (answerOf a) ≡ a
 unfolding back
-back-is (answer.Result x) = refl
-back-is (answer.Refused n) = refl
+answer-back (answer.Result x) = refl
+answer-back (answer.Refused n) = refl
 
 module _ (ord : List ℕ) where
   module _ {P : PackKind} (c : PackCall P) (k : PackStep ord c) where
     -- a packing call by the number that refuses it
-    pack-by : (n : ℕ) → packCallRefusal c ≡ n → packOutcome c ≡ packUnless n ord (c .given) (setIn c)
-    pack-by n e =
+    pack-outcome-is : (n : ℕ) → packCallRefusal c ≡ n → packOutcome c ≡ packUnless n ord (c .given) (setIn c)
+    pack-outcome-is n e =
         let by-kind : packOutcome c ≡ packUnless (packCallRefusal c) ord (c .given) (setIn c) = k .outcome in
         by-kind ∙ ap (λ (m : ℕ). packUnless m ord (c .given) (setIn c)) e
 
     -- a refused one leaves the sync bit
     pub pack-leaves : (n : ℕ) → packCallRefusal c ≡ suc n → packLeft c ≡ c .given
-    pack-leaves n e = ap (λ (y : Outcome (List ℕ) Bool). y .state) (pack-by (suc n) e)
+    pack-leaves n e = ap (λ (y : Outcome (List ℕ) Bool). y .state) (pack-outcome-is (suc n) e)
 
     module _ (e : packCallRefusal c ≡ 0) where
       -- one that is not refused has a set that may be sent
@@ -73,32 +73,32 @@ module _ (ord : List ℕ) where
       -- and its seven bytes are the frame of the set with the sync bit it was given
       pub pack-sent : sent c ≡ frame ord (setIn c) (c .given)
       unfolding valueOr
-      pack-sent = sym (bytes-in (c .answer) (sent c)) ∙ ap (λ (y : Outcome (List ℕ) Bool). valueOr (sent c) (y .answer)) (pack-by 0 e)
+      pack-sent = sym (bytes-back (c .answer) (sent c)) ∙ ap (λ (y : Outcome (List ℕ) Bool). valueOr (sent c) (y .answer)) (pack-outcome-is 0 e)
 
   module _ {R : ReceiveKind} (c : ReceiveCall R) (k : ReceiveStep ord c) where
     -- a receiving call by the number that refuses it
-    receive-by : (n : ℕ) → receiveCallRefusal c ≡ n → receiveOutcome c ≡ outcomeOf (receiveUnless n ord (c .given) (frameIn c))
-    receive-by n e =
+    receive-outcome-is : (n : ℕ) → receiveCallRefusal c ≡ n → receiveOutcome c ≡ outcomeOf (receiveUnless n ord (c .given) (frameIn c))
+    receive-outcome-is n e =
         let by-kind : receiveOutcome c ≡ outcomeOf (receiveUnless (receiveCallRefusal c) ord (c .given) (frameIn c)) = k in
         by-kind ∙ ap (λ (m : ℕ). outcomeOf (receiveUnless m ord (c .given) (frameIn c))) e
 
     -- a refused one leaves the record
     pub receive-leaves : (n : ℕ) → receiveCallRefusal c ≡ suc n → c .left ≡ c .given
-    receive-leaves n e = ap (λ (y : Outcome FrameResult Record). y .state) (receive-by (suc n) e)
+    receive-leaves n e = ap (λ (y : Outcome FrameResult Record). y .state) (receive-outcome-is (suc n) e)
 
     module _ (e : receiveCallRefusal c ≡ 0) where
       -- one that is not refused gives what the receiver gives
       receives : receiveOutcome c ≡ outcomeOf (receive ord (c .given) (frameIn c))
       unfolding receive
       receives =
-          receive-by 0 e ∙ sym (ap (λ (m : ℕ). outcomeOf (receiveUnless m ord (c .given) (frameIn c))) (R .covers (c .given) (c .arguments) e))
+          receive-outcome-is 0 e ∙ sym (ap (λ (m : ℕ). outcomeOf (receiveUnless m ord (c .given) (frameIn c))) (R .covers (c .given) (c .arguments) e))
 
       -- its answer
       pub receive-answer : c .answer ≡ receive ord (c .given) (frameIn c) .answer
       receive-answer =
-          sym (back-is (c .answer))
+          sym (answer-back (c .answer))
           ∙ ap (λ (y : Outcome FrameResult Record). back (y .answer)) receives
-          ∙ back-is (receive ord (c .given) (frameIn c) .answer)
+          ∙ answer-back (receive ord (c .given) (frameIn c) .answer)
 
       -- and its record
       pub receive-left : c .left ≡ receive ord (c .given) (frameIn c) .next

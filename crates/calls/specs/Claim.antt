@@ -19,8 +19,8 @@ use Rattle.records.specs.Records.{fresh}
 use Rattle.records.specs.declared.Record.{Record}
 use Rattle.receiver.specs.declared.ReceiveAnswer.the-variants.{Result}
 use Rattle.calls.specs.Model.{done, outcomes, PackKind, packModel, ReceiveKind, receiveModel, receiveKind}
-use Rattle.calls.specs.Observed.{PackCall, packCallRefusal, sent, packOutcome, lentAfter, ReceiveCall, frameIn, receiveCallRefusal, receiveOutcome}
-use Rattle.calls.specs.Observed.{PackRun, ReceiveRun, unrefused, channel}
+use Rattle.calls.specs.Calls.{PackCall, packCallRefusal, sent, packOutcome, lentAfter, ReceiveCall, frameIn, receiveCallRefusal, receiveOutcome}
+use Rattle.calls.specs.Calls.{PackRun, ReceiveRun, unrefused, channel}
 use Rattle.calls.specs.Frames.{Row, RowClaim, PairClaim}
 
 module _ {P : PackKind} {R : ReceiveKind} where

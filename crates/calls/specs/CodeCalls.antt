@@ -1,5 +1,5 @@
 -- Calls of the code, as they are observed: each is some call of a function of which its contract holds, by the checker's own reading
--- of its `ensures`; of a call in place, whose clauses have no such reading, the equation that each is (`CodeReceives.in-place-says`).
+-- of its `ensures`; of a call in place, whose clauses have no such reading, the equation that each is (`ReceivingCalls.in-place-says`).
 use Prim.Native.Nat.{ℕ}
 use mathlib.Core.Path.{_≡_}
 use mathlib.Core.Bool.{Bool}
@@ -27,7 +27,7 @@ use Rattle.receiver.proofs.receive as value
 use Rattle.receiver.proofs.receive.Reads as value-reads
 use Rattle.receiver.proofs.receive_in_place as place
 use Rattle.calls.specs.Model.{packKind, receiveKind}
-use Rattle.calls.specs.Observed.{PackCall, ReceiveCall}
+use Rattle.calls.specs.Calls.{PackCall, ReceiveCall}
 
 -- a packing call by what it was passed, gave and left
 abbrev pub packCall : ParameterSet → Bool → List ℕ → PackAnswer → List ℕ → PackCall packKind

@@ -1,5 +1,5 @@
 -- Demands 2 and 3 for the calls of the code: every packing call is one of `frame::pack`, every receiving call one of `receiver::receive`
--- or `receiver::receive_in_place`, mixed at will; of each only its contract is known. Proved in `TheCode`.
+-- or `receiver::receive_in_place`, mixed at will; of each only its contract is known. Proved in the law file of this name.
 use Prim.Native.Nat.{ℕ}
 use mathlib.Core.Bool.{Bool}
 use mathlib.Core.List.{List}
@@ -8,7 +8,7 @@ use Rattle.order.specs.Order.{Order, defaultOrder}
 use Rattle.records.specs.Records.{valid}
 use Rattle.records.specs.declared.Record.{Record}
 use Rattle.calls.specs.Model.{PackArguments, packKind, receiveKind}
-use Rattle.calls.specs.Observed.{PackCall, PackStep, ReceiveCall, ReceiveStep}
+use Rattle.calls.specs.Calls.{PackCall, PackStep, ReceiveCall, ReceiveStep}
 use Rattle.calls.specs.Return.{DefinedReturn, CallsReturn}
 use Rattle.calls.specs.Claim.{Session, Claim}
 use Rattle.calls.specs.Script.{Wish, Script, Had}

@@ -13,7 +13,7 @@ use Rattle.receiver.specs.Steps.{kindOf}
 use Rattle.receiver.specs.declared.FrameResult.{FrameResult}
 use Rattle.receiver.specs.declared.Kind.the-variants.{Unvoiced, Voiced, Repeat}
 use Rattle.calls.specs.Model.{PackKind, ReceiveKind}
-use Rattle.calls.specs.Observed.{PackCall, setIn, ReceiveCall}
+use Rattle.calls.specs.Calls.{PackCall, setIn, ReceiveCall}
 
 -- a frame by the set that was packed and the places that the channel changed; it is sent unvoiced or voiced as its set is
 module _ (ord : List ℕ) (set : ParameterSet) (flips : ℕ → Bool) where

@@ -1,5 +1,5 @@
 pub mod Model
-pub mod Observed
+pub mod Calls
 pub mod Return
 pub mod Frames
 pub mod Claim

@@ -16,7 +16,7 @@ use Rattle.receiver.specs.Receiving.{receive}
 use Rattle.receiver.specs.declared.FrameResult.{FrameResult}
 use Rattle.receiver.specs.declared.ReceiveAnswer.the-variants.{Result}
 use Rattle.calls.specs.Model.{packKind, receiveKind}
-use Rattle.calls.specs.Observed.{PackCall, packCallRefusal, sent, PackStep, ReceiveCall, frameIn}
+use Rattle.calls.specs.Calls.{PackCall, packCallRefusal, sent, PackStep, ReceiveCall, frameIn}
 
 -- a receiving call gives what the logical bits g are read as; bit 53 is the sync bit
 pub record ReadsBits (g : ℕ → Bool) (d : ReceiveCall receiveKind) : Type 0 where

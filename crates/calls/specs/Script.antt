@@ -10,7 +10,7 @@ use Rattle.order.specs.Order.{frameRefusal}
 use Rattle.frame.specs.Packing.{packRefusal}
 use Rattle.records.specs.declared.Record.{Record}
 use Rattle.calls.specs.Model.{PackArguments, packKind, receiveKind}
-use Rattle.calls.specs.Observed.{PackCall, ReceiveCall, frameIn, receiveCallRefusal, unrefused}
+use Rattle.calls.specs.Calls.{PackCall, ReceiveCall, frameIn, receiveCallRefusal, unrefused}
 use Rattle.calls.specs.Claim.{Session}
 
 -- what is asked of a receiving call, by the way that it is made: to take the next frame that the channel hands on, or to get another frame, which is refused

@@ -1,3 +1,3 @@
-pub mod Muted
-pub mod Proved
-pub mod WorkedOut
+pub mod Mute
+pub mod Examples
+pub mod WorkedExamples

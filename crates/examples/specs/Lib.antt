@@ -1,2 +1,2 @@
 pub mod Examples
-pub mod Worked
+pub mod WorkedExamples

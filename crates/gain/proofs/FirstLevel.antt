@@ -23,10 +23,10 @@ module _ (g2 q : ℕ) where
   first-next c = omega (arith, suc-mul c (67 * apart g2 q + 372))
 
   -- a code that is not 0, by its distance from 1
-  pub first-of : (c : ℕ) → (c ≡ 0 → ⊥) → firstLevel g2 c q ≡ min (level g2) (level q) - 1116 + (c - 1) * (67 * apart g2 q + 372)
+  pub first-is : (c : ℕ) → (c ≡ 0 → ⊥) → firstLevel g2 c q ≡ min (level g2) (level q) - 1116 + (c - 1) * (67 * apart g2 q + 372)
   unfolding firstLevel
-  first-of zero h = absurd (h refl)
-  first-of (suc c) h =
+  first-is zero h = absurd (h refl)
+  first-is (suc c) h =
       let e : suc c - 1 ≡ c = omega arith in
       rw e
 

@@ -9,5 +9,5 @@ pub level-is : (i : ℕ) → 31 * level i ≡ 186 * (310 + 67 * i)
 level-is i = omega arith
 
 -- each level is below the next
-pub level-next : (i : ℕ) → level i < level (i + 1)
-level-next i = omega arith
+pub level-lt-next : (i : ℕ) → level i < level (i + 1)
+level-lt-next i = omega arith

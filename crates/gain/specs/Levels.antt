@@ -1,7 +1,9 @@
 -- Document 01, "Gain levels" (5.3.3): the level of a second code G2, and the first level of a frame, after a frame whose second code is q.
 use Prim.Native.Nat.{ℕ, zero, suc, _+_, _-_, _*_, _/_, min}
-use mathlib.Core.Bool.{_&&_, cond}
+use mathlib.Core.Bool.{not, _&&_}
+use mathlib.Core.List.{[], _∷_}
 use lib.Dec.{leb}
+use Rattle.bits.specs.Refusals.{firstRefusal}
 use Rattle.gain.specs.declared.LevelAnswer.{LevelAnswer}
 use Rattle.gain.specs.declared.LevelAnswer.the-variants.{Level, Refused}
 
@@ -24,11 +26,11 @@ firstLevel g2 (suc c) q = min (level g2) (level q) - 1116 + c * (67 * apart g2 q
 
 -- the refusal of a level: 5 where G2 is out of range, 0 for none
 abbrev pub levelRefusal : ℕ → ℕ
-levelRefusal g2 = cond (leb g2 31) 0 5
+levelRefusal g2 = firstRefusal ((not (leb g2 31), 5) ∷ [])
 
 -- the refusal of a first level: 5 where G2, the code or q is out of range
 abbrev pub firstLevelRefusal : ℕ → ℕ → ℕ → ℕ
-firstLevelRefusal g2 code q = cond (leb g2 31 && leb code 7 && leb q 31) 0 5
+firstLevelRefusal g2 code q = firstRefusal ((not (leb g2 31 && leb code 7 && leb q 31), 5) ∷ [])
 
 -- the level where the refusal is 0, otherwise the refusal
 abbrev pub levelUnless : ℕ → ℕ → LevelAnswer

@@ -9,15 +9,17 @@ use lib.Dec.{lit≤}
 use lib.ListN.{length, length-take}
 use Rattle.bits.proofs.Value.{value-lt-at}
 use Rattle.hamming.specs.Word.{dataBits, dataOf, syndrome, flipAt, Fix, stand, flip, erase, fixOf, mend, decode, Bounded}
-use Rattle.hamming.proofs.Words.{length-flip}
+use Rattle.hamming.proofs.Words.{flip-length}
 
-length-data : (n : ℕ) (w : List Bool) → length w ≡ n → length (dataOf n w) ≡ dataBits n
-length-data n w e = length-take (dataBits n) w ∙ omega arith
+-- the data of a word of n bits
+data-length : (n : ℕ) (w : List Bool) → length w ≡ n → length (dataOf n w) ≡ dataBits n
+data-length n w e = length-take (dataBits n) w ∙ omega arith
 
+-- every request leaves an outcome that fits the word
 mend-bounded : (n : ℕ) (w : List Bool) → length w ≡ n → (f : Fix) → Bounded n (mend n w f)
-mend-bounded n w e stand = (value-lt-at (dataBits n) (dataOf n w) (length-data n w e), lit≤ tt)
+mend-bounded n w e stand = (value-lt-at (dataBits n) (dataOf n w) (data-length n w e), lit≤ tt)
 mend-bounded n w e (flip k) =
-    (value-lt-at (dataBits n) (dataOf n (flipAt k w)) (length-data n (flipAt k w) (length-flip k w ∙ e)), lit≤ tt)
+    (value-lt-at (dataBits n) (dataOf n (flipAt k w)) (data-length n (flipAt k w) (flip-length k w ∙ e)), lit≤ tt)
 mend-bounded n w e erase = tt
 
 -- what a received word is read as fits it

@@ -23,6 +23,7 @@ units = bits 4 0b1000 ∷ bits 4 0b0100 ∷ bits 4 0b0010 ∷ bits 4 0b0001 ∷ 
 abbrev pub matrix : ℕ → List (List Bool)
 matrix n = map (take (checkBits n)) (take (dataBits n) generator ++ take (checkBits n) units)
 
+-- the column of bit k is the matrix's
 right : ℕ → ℕ → Bool
 right n k = same (column n k) (getD (matrix n) k [])
 

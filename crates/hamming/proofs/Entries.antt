@@ -12,7 +12,7 @@ use Rattle.bits.proofs.Every.{every, every-at, and-left}
 use Rattle.hamming.specs.Word.{checkBits, column, Fix, stand, flip, erase, fixOf}
 use Rattle.hamming.specs.Table.{standMark, eraseMark, entryOf}
 use Rattle.hamming.proofs.Lengths.{lengths-at}
-use Rattle.hamming.proofs.Syndromes.{explains, every-syndrome}
+use Rattle.hamming.proofs.Syndromes.{explains, fix-explains}
 
 -- the code's table
 unfoldable pub table : List (List ℕ)
@@ -22,13 +22,14 @@ table =
     ∷ (8 ∷ 7 ∷ 6 ∷ 9 ∷ 5 ∷ 9 ∷ 9 ∷ 2 ∷ 4 ∷ 9 ∷ 9 ∷ 1 ∷ 9 ∷ 0 ∷ 3 ∷ 9 ∷ [])
     ∷ []
 
+-- the entry at syndrome z is the rule's
 right : ℕ → ℕ → Bool
 right n z = eqb (getD (getD table (n - 6) []) z 0) (entryOf (fixOf n (bits (checkBits n) z)))
 
 -- each entry is what the rule asks for at that syndrome
-pub table-right : (n z : ℕ) → 6 ≤ n → n ≤ 8 → z < 16 → getD (getD table (n - 6) []) z 0 ≡ entryOf (fixOf n (bits (checkBits n) z))
+pub table-is : (n z : ℕ) → 6 ≤ n → n ≤ 8 → z < 16 → getD (getD table (n - 6) []) z 0 ≡ entryOf (fixOf n (bits (checkBits n) z))
 unfolding right table fixOf
-table-right n z l m h = eqb→eq _ _ (every-at 16 (right n) (lengths-at (λ n. every 16 (right n)) tt n l m) z h)
+table-is n z l m h = eqb→eq _ _ (every-at 16 (right n) (lengths-at (λ n. every 16 (right n)) tt n l m) z h)
 
 -- the bit that a rule's request flips is one of the word's
 flip-lt : (n k : ℕ) (z : List Bool) → T (explains n z (flip k)) → k < n
@@ -40,7 +41,7 @@ module _ (n : ℕ) (l : 6 ≤ n) (m : n ≤ 8) (z : List Bool) (h : length z ≡
 
   -- the mark of an erasure asks for one
   pub entry-erase : entryOf asked ≡ eraseMark → asked ≡ erase
-  entry-erase e = go (fixOf n z) (every-syndrome n l m z h) e
+  entry-erase e = go (fixOf n z) (fix-explains n l m z h) e
     where
       go : (f : Fix) → T (explains n z f) → entryOf f ≡ eraseMark → f ≡ erase
       go stand t e = absurd (omega arith)
@@ -49,7 +50,7 @@ module _ (n : ℕ) (l : 6 ≤ n) (m : n ≤ 8) (z : List Bool) (h : length z ≡
 
   -- the mark of a word that stands lets it stand
   pub entry-stand : entryOf asked ≡ standMark → asked ≡ stand
-  entry-stand e = go (fixOf n z) (every-syndrome n l m z h) e
+  entry-stand e = go (fixOf n z) (fix-explains n l m z h) e
     where
       go : (f : Fix) → T (explains n z f) → entryOf f ≡ standMark → f ≡ stand
       go stand t e = refl
@@ -58,7 +59,7 @@ module _ (n : ℕ) (l : 6 ≤ n) (m : n ≤ 8) (z : List Bool) (h : length z ≡
 
   -- any other entry is the bit to flip
   pub entry-flip : (entryOf asked ≡ eraseMark → ⊥) → (entryOf asked ≡ standMark → ⊥) → (asked ≡ flip (entryOf asked)) × (entryOf asked < n)
-  entry-flip a b = go (fixOf n z) (every-syndrome n l m z h) a b
+  entry-flip a b = go (fixOf n z) (fix-explains n l m z h) a b
     where
       go : (f : Fix) → T (explains n z f) → (entryOf f ≡ eraseMark → ⊥) → (entryOf f ≡ standMark → ⊥) → (f ≡ flip (entryOf f)) × (entryOf f < n)
       go stand t a b = absurd (b refl)

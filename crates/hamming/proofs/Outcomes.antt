@@ -9,7 +9,7 @@ use Rattle.bits.specs.Bits.{value, bits}
 use Rattle.hamming.specs.Word.{checkBits, dataBits, parityOf, syndrome, flipAt, flip, fixOf, mend, decode}
 use Rattle.hamming.specs.Table.{standMark, eraseMark, entryOf}
 use Rattle.hamming.specs.declared.Decoded.the-variants.{Read, Erased}
-use Rattle.hamming.proofs.Words.{expected, expected-lt, received-lt, syndrome-length, syndrome-is, data-value, data-flipped}
+use Rattle.hamming.proofs.Words.{expected, expected-lt, received-lt, syndrome-length, syndrome-is, data-value, flipped-data-value}
 use Rattle.hamming.proofs.Entries.{entry-erase, entry-stand, entry-flip}
 
 module _ (n : ℕ) (l : 6 ≤ n) (m : n ≤ 8) (w : ℕ) where
@@ -24,26 +24,26 @@ module _ (n : ℕ) (l : 6 ≤ n) (m : n ≤ 8) (w : ℕ) where
 
   module _ (h : w < 2 ^ n) (fix : ℕ) (e : fix ≡ entryOf (fixOf n (syndrome n (bits n w)))) where
     -- the mark of an erasure
-    pub erased : fix ≡ eraseMark → Erased ≡ decode n (bits n w)
+    pub erase-is : fix ≡ eraseMark → Erased ≡ decode n (bits n w)
     unfolding decode
-    erased f = sym (ap (mend n (bits n w)) (entry-erase n l m _ (syndrome-length n l m w) (sym e ∙ f)))
+    erase-is f = sym (ap (mend n (bits n w)) (entry-erase n l m _ (syndrome-length n l m w) (sym e ∙ f)))
 
     -- the mark of a word that stands
-    pub stands : fix ≡ standMark → Read (w / 2 ^ checkBits n) 0 ≡ decode n (bits n w)
+    pub stand-is : fix ≡ standMark → Read (w / 2 ^ checkBits n) 0 ≡ decode n (bits n w)
     unfolding decode
-    stands f = ap (λ (x : ℕ). Read x 0) (sym (data-value n l m w h)) ∙ sym (ap (mend n (bits n w)) (entry-stand n l m _ (syndrome-length n l m w) (sym e ∙ f)))
+    stand-is f = ap (λ (x : ℕ). Read x 0) (sym (data-value n l m w h)) ∙ sym (ap (mend n (bits n w)) (entry-stand n l m _ (syndrome-length n l m w) (sym e ∙ f)))
 
     module _ (a : fix ≡ eraseMark → ⊥) (b : fix ≡ standMark → ⊥) where
-      asks : (fixOf n (syndrome n (bits n w)) ≡ flip (entryOf (fixOf n (syndrome n (bits n w))))) × (entryOf (fixOf n (syndrome n (bits n w))) < n)
-      asks = entry-flip n l m _ (syndrome-length n l m w) (λ f. a (e ∙ f)) (λ f. b (e ∙ f))
+      fix-flips : (fixOf n (syndrome n (bits n w)) ≡ flip (entryOf (fixOf n (syndrome n (bits n w))))) × (entryOf (fixOf n (syndrome n (bits n w))) < n)
+      fix-flips = entry-flip n l m _ (syndrome-length n l m w) (λ f. a (e ∙ f)) (λ f. b (e ∙ f))
 
       -- any other entry is a bit of the word
       pub bit-lt : fix < n
-      bit-lt = rw e (asks .1)
+      bit-lt = rw e (fix-flips .1)
 
       -- which is flipped back
-      pub flips : (x : ℕ) → x ≡ value (flipAt fix (bits n w)) → Read (x / 2 ^ checkBits n) 1 ≡ decode n (bits n w)
+      pub flip-is : (x : ℕ) → x ≡ value (flipAt fix (bits n w)) → Read (x / 2 ^ checkBits n) 1 ≡ decode n (bits n w)
       unfolding decode
-      flips x f =
-          ap (λ (y : ℕ). Read y 1) (ap (λ (y : ℕ). y / 2 ^ checkBits n) f ∙ sym (data-flipped n l m fix w))
-          ∙ sym (ap (mend n (bits n w)) (asks .0 ∙ ap flip (sym e)))
+      flip-is x f =
+          ap (λ (y : ℕ). Read y 1) (ap (λ (y : ℕ). y / 2 ^ checkBits n) f ∙ sym (flipped-data-value n l m fix w))
+          ∙ sym (ap (mend n (bits n w)) (fix-flips .0 ∙ ap flip (sym e)))

@@ -21,8 +21,8 @@ sums u =
     + (u / 8 + u / 4 % 2 + u / 2 % 2) % 2
 
 -- they are the parity equations
-pub sums-are : (u : ℕ) → u < 16 → sums u ≡ value (parity (bits 4 u))
-sums-are = equal-at 16 sums (λ u. value (parity (bits 4 u))) tt
+pub sums-is : (u : ℕ) → u < 16 → sums u ≡ value (parity (bits 4 u))
+sums-is = equal-at 16 sums (λ u. value (parity (bits 4 u))) tt
 
 -- what is left of the four: the first three in the shorter words, whose data of three bits move up one place
 short : ℕ → ℕ → Bool

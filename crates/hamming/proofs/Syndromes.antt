@@ -30,6 +30,7 @@ isFlip-eq k stand t = absurd t
 isFlip-eq k (flip j) t = ap flip (eqb→eq j k t)
 isFlip-eq k erase t = absurd t
 
+-- the column of bit k asks for bit k
 flipsBack : ℕ → ℕ → Bool
 flipsBack n k = isFlip k (fixOf n (column n k))
 
@@ -54,13 +55,14 @@ explains n z stand = eqb (ones z) 0 || (eqb n 6 && same z spareColumn)
 explains n z (flip k) = ltb k n && same z (column n k)
 explains n z erase = eqb n 8 && (eqb (ones z % 2) 0 && not (eqb (ones z) 0))
 
+-- the request at a syndrome is explained by it
 explained : ℕ → List Bool → Bool
 explained n z = explains n z (fixOf n z)
 
 -- every syndrome of every word: it stands for zero or the spare's column in word B, a flip for that bit's column, an erasure for an even one in word A
-pub every-syndrome : (n : ℕ) → 6 ≤ n → n ≤ 8 → (z : List Bool) → length z ≡ checkBits n → T (explains n z (fixOf n z))
+pub fix-explains : (n : ℕ) → 6 ≤ n → n ≤ 8 → (z : List Bool) → length z ≡ checkBits n → T (explains n z (fixOf n z))
 unfolding explained fixOf
-every-syndrome n l m z h = words-at (checkBits n) (explained n) (lengths-at (λ n. words (checkBits n) (explained n)) tt n l m) z h
+fix-explains n l m z h = words-at (checkBits n) (explained n) (lengths-at (λ n. words (checkBits n) (explained n)) tt n l m) z h
 
 -- the spare's column is in word B no bit's own: the data stand, nothing repaired
 pub spare-stands : fixOf 6 spareColumn ≡ stand

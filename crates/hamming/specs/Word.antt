@@ -77,13 +77,13 @@ flipFrom n z (suc m) k = cond (same (column n k) z) (flip k) (flipFrom n z m (su
 unfoldable pub fixOf : ℕ → List Bool → Fix
 fixOf n z = cond (eqb (ones z) 0) stand (cond (eqb n 8 && eqb (ones z % 2) 0) erase (flipFrom n z n 0))
 
--- the word after that, as data and the repaired count
+-- the outcome of the word when that is done: its data as a number, and 1 where a bit was repaired
 abbrev pub mend : ℕ → List Bool → Fix → Decoded
 mend n w stand = Read (value (dataOf n w)) 0
 mend n w (flip k) = Read (value (dataOf n (flipAt k w))) 1
 mend n w erase = Erased
 
--- what a received word of n bits is read as
+-- the outcome of a received word of n bits
 unfoldable pub decode : ℕ → List Bool → Decoded
 decode n w = mend n w (fixOf n (syndrome n w))
 

@@ -12,8 +12,10 @@ pub enum WordLength {
     Eight,
 }
 
-// A received word: its data, u0 most significant, with how many bits were repaired; or an erasure.
+// The outcome of a received word, in whatever way its data were chosen.
 pub enum Decoded {
+    // The data as a number, u0 most significant, and how many of the word's bits were repaired.
     Read(u8, u8),
+    // The word erases its frame.
     Erased,
 }

@@ -21,8 +21,8 @@ fn all_parity(u: u8) -> u8
     p0 * 8 + p1 * 4 + p2 * 2 + p3
 }
 
-// The parity bits of the data in the low bits of a number, p0 most significant. Only the longest word
-// has p3, and the fourth data bit of the shortest is 0.
+// The parity bits of the data in the low bits of a number, p0 most significant. Only word A has p3, and
+// word B's fourth data bit is a spare 0.
 pub fn parity_of(length: WordLength, u: u8) -> u8
     ensures { λ r. ⌜ r ≡ value (parityOf (lengthOf length) (bits (dataBits (lengthOf length)) u)) ⌝ }
 {

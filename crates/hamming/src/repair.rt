@@ -1,4 +1,4 @@
-// Reading a received word: its syndrome tells the bit to flip back, if any.
+// The outcome of a received word by its syndrome, which tells the bit to flip back, if any.
 use crate::Decoded;
 use crate::WordLength;
 use crate::parity::parity_of;
@@ -18,7 +18,8 @@ fn fix_of(n: usize, syndrome: u8) -> u8
 
 // The weight of the lowest data bit: the parity bits stand below it.
 fn data_weight(n: usize) -> u8
-    ensures { λ r. ⌜ (r ≡ 2 ^ checkBits n) × (0 < r) ⌝ }
+    ensures equal { λ r. ⌜ r ≡ 2 ^ checkBits n ⌝ }
+    ensures positive { λ r. ⌜ 0 < r ⌝ }
 {
     if n == 8 { 16 } else { 8 }
 }
@@ -31,7 +32,7 @@ fn flipped(n: usize, word: u8, k: usize) -> u8
     word ^ (1 << (n - 1 - k))
 }
 
-// A word of n bits.
+// The outcome of a word of n bits: the table is asked at its syndrome.
 fn decode_word(length: WordLength, n: usize, word: u8) -> Decoded
     requires { ⌜ (n ≡ lengthOf length) × (word < 2 ^ n) ⌝ }
     ensures { λ r. ⌜ r ≡ decode n (bits n word) ⌝ }
@@ -48,7 +49,7 @@ fn decode_word(length: WordLength, n: usize, word: u8) -> Decoded
     Decoded::Read(flipped(n, word, fix as usize) / weight, 1)
 }
 
-// The word in the low bits of a number.
+// The outcome of the word in the low bits of a number.
 pub fn decode(length: WordLength, word: u8) -> Decoded
     ensures { λ r. ⌜ r ≡ decode (lengthOf length) (bits (lengthOf length) word) ⌝ }
 {

@@ -1,18 +1,17 @@
 -- What the calls answer where nothing is refused.
 -- Assumes nothing.
-use mathlib.Core.Path.{_≡_, ap}
-use mathlib.Core.Bool.{Bool, cond}
+use mathlib.Core.Path.{_≡_}
 use Prim.Native.Nat.{ℕ, _<_}
 use borrow.Author.Tests.{lt-ltb}
 use Rattle.bits.specs.Bits.{bits}
-use Rattle.pitch.specs.Pitch.{classOf, codeOf, classUnless, classAnswer, codeUnless, codeAnswer, classIn, codeIn}
+use Rattle.pitch.specs.Pitch.{classOf, codeOf, classAnswer, codeAnswer, classIn, codeIn}
 
 -- a code's answer holds its class
 pub class-in : (c : ℕ) → c < 128 → classIn (classAnswer c) ≡ classOf (bits 7 c)
 unfolding classAnswer
-class-in c h = ap (λ (b : Bool). classIn (classUnless (cond b 0 5) c)) (lt-ltb c 128 h)
+class-in c h = simp (lt-ltb c 128 h)
 
 -- an index's answer holds its code
 pub code-in : (i : ℕ) → i < 99 → codeIn (codeAnswer i) ≡ codeOf i
 unfolding codeAnswer
-code-in i h = ap (λ (b : Bool). codeIn (codeUnless (cond b 0 5) i)) (lt-ltb i 99 h)
+code-in i h = simp (lt-ltb i 99 h)

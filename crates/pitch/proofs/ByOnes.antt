@@ -15,13 +15,13 @@ use Rattle.pitch.specs.Pitch.{index, byOnes, classOf}
 use Rattle.pitch.specs.declared.PitchClass.the-variants.{Unvoiced, Erased, Voiced}
 
 -- the language's count of ones of a number below 128 is that of its seven bits
-pub count-seven : (c : ℕ) → c < 128 → Count.ones c ≡ ones (bits 7 c)
+pub count-is : (c : ℕ) → c < 128 → Count.ones c ≡ ones (bits 7 c)
 unfolding Count.ones Count.onesIn
-count-seven = equal-at 128 Count.ones (λ c. ones (bits 7 c)) tt
+count-is = equal-at 128 Count.ones (λ c. ones (bits 7 c)) tt
 
 -- so is the count of the low seven bits of any number
 pub count-low : (c : ℕ) → Count.ones (c % 128) ≡ ones (bits 7 c)
-count-low c = count-seven (c % 128) (mod-lt c (lit< tt)) ∙ ap ones (bits-mod 7 c)
+count-low c = count-is (c % 128) (mod-lt c (lit< tt)) ∙ ap ones (bits-mod 7 c)
 
 -- fewer than two ones: unvoiced
 pub class-few : (p : List Bool) → ones p < 2 → classOf p ≡ Unvoiced

@@ -1,10 +1,11 @@
 -- Document 01, "Pitch code" (MIL-STD-3005, 5.3.1 and Table I), and the refusals of its calls.
 use Prim.Native.Nat.{ℕ, zero, suc}
-use mathlib.Core.Bool.{Bool, cond}
+use mathlib.Core.Bool.{Bool, not, cond}
 use mathlib.Core.List.{List, [], _∷_}
 use lib.Dec.{leb, ltb}
 use lib.ListN.{getD}
 use Rattle.bits.specs.Bits.{ones, value, bits}
+use Rattle.bits.specs.Refusals.{firstRefusal}
 use Rattle.pitch.specs.declared.PitchClass.{PitchClass}
 use Rattle.pitch.specs.declared.PitchClass.the-variants.{Unvoiced, Erased, Voiced}
 use Rattle.pitch.specs.declared.ClassAnswer.{ClassAnswer}
@@ -45,12 +46,13 @@ codeOf i = getD (voicedFrom 128 0) i 0
 abbrev pub unvoicedCode : ℕ
 unvoicedCode = 0x00
 
--- the refusal of a code past 127 and of an index past 98, number 5; 0 is none
+-- the refusal of a code: 5 past 127, 0 for none
 abbrev pub codeRefusal : ℕ → ℕ
-codeRefusal c = cond (ltb c 128) 0 5
+codeRefusal c = firstRefusal ((not (ltb c 128), 5) ∷ [])
 
+-- the refusal of an index: 5 past 98
 abbrev pub indexRefusal : ℕ → ℕ
-indexRefusal i = cond (ltb i 99) 0 5
+indexRefusal i = firstRefusal ((not (ltb i 99), 5) ∷ [])
 
 -- the answers of the two calls: the value, or the refusal alone
 abbrev pub classUnless : ℕ → ℕ → ClassAnswer

@@ -1,5 +1,5 @@
 -- The laws of the nearest level and of the codes chosen by it.
-pub mod Nearest
+pub mod NearestLevel
 pub mod Thresholds
-pub mod Raise
-pub mod Chosen
+pub mod RaisedLevels
+pub mod Codes

@@ -10,7 +10,7 @@ use lib.IntN.{pos, negsuc, natAbs}
 use borrow.Author.Tests.{ltb-true, ltb-false}
 use Rattle.gain.specs.Levels.{apart}
 use Rattle.quantiser.specs.Choice.{distance, nearest}
-use Rattle.quantiser.proofs.Nearest.{nearest-up, nearest-stays}
+use Rattle.quantiser.proofs.NearestLevel.{nearest-up, nearest-stays}
 
 -- the distance of two unsigned numbers
 pub distance-is : (v l : ℕ) → distance (pos v) l ≡ apart v l

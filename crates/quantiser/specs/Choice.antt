@@ -1,9 +1,11 @@
 -- Document 01, "Gain levels" (5.3.3, 5.3.7): choosing codes from a first and a second level, and q, the second code before.
 use Prim.Native.Nat.{ℕ, zero, suc, _+_}
-use mathlib.Core.Bool.{Bool, _&&_, cond}
+use mathlib.Core.Bool.{Bool, not, _&&_, cond}
+use mathlib.Core.List.{[], _∷_}
 use lib.Dec.{leb, ltb}
 use lib.IntN.{ℤ, pos, negℤ, natAbs, _-ℤ_}
 use lib.Signed.{leZ}
+use Rattle.bits.specs.Refusals.{firstRefusal}
 use Rattle.gain.specs.Levels.{level, apart, mean, firstLevel}
 use Rattle.quantiser.specs.declared.CodesAnswer.{CodesAnswer}
 use Rattle.quantiser.specs.declared.CodesAnswer.the-variants.{Codes, Refused}
@@ -43,7 +45,7 @@ levelInRange x = leZ (negℤ (pos 18600)) x && leZ x (pos 37200)
 
 -- the refusal of a choice: 5 where a level or q is out of range, 0 for none
 abbrev pub chooseRefusal : ℤ → ℤ → ℕ → ℕ
-chooseRefusal first second q = cond (levelInRange first && levelInRange second && leb q 31) 0 5
+chooseRefusal first second q = firstRefusal ((not (levelInRange first && levelInRange second && leb q 31), 5) ∷ [])
 
 -- the codes where the refusal is 0, otherwise the refusal
 abbrev pub codesUnless : ℕ → ℕ → ℕ → CodesAnswer

@@ -38,7 +38,8 @@ fn level_in_range(x: i32) -> bool
 // A level in range as an unsigned number, raised by `RAISE`.
 fn raised(x: i32) -> u32
     requires { ⌜ levelInRange x ≡ true ⌝ }
-    ensures { λ r. ⌜ (pos r ≡ x +ℤ pos 18600) × (r ≤ 55800) ⌝ }
+    ensures equal { λ r. ⌜ pos r ≡ x +ℤ pos 18600 ⌝ }
+    ensures bound { λ r. ⌜ r ≤ 55800 ⌝ }
 {
     (x + 18600) as u32
 }
@@ -46,7 +47,8 @@ fn raised(x: i32) -> u32
 // The index of the nearest of the 32 levels.
 fn second_code(second: i32) -> u8
     requires { ⌜ levelInRange second ≡ true ⌝ }
-    ensures { λ r. ⌜ (r ≡ chosenG2 second) × (r ≤ 31) ⌝ }
+    ensures equal { λ r. ⌜ r ≡ chosenG2 second ⌝ }
+    ensures bound { λ r. ⌜ r ≤ 31 ⌝ }
 {
     quantise(RAISE + 1860, 402, 31, raised(second))
 }

@@ -9,7 +9,8 @@ ghost use Rattle.quantiser.specs.Choice.{nearest};
 // threshold lies half a step above the level.
 pub(crate) fn quantise(base: u32, step: u32, last: u8, value: u32) -> u8
     requires { ⌜ (1 ≤ step) × (base + last * step ≤ 100000) × (value ≤ 100000) ⌝ }
-    ensures { λ r. ⌜ (r ≡ nearest (λ i. base + i * step) (pos value) last) × (r ≤ last) ⌝ }
+    ensures equal { λ r. ⌜ r ≡ nearest (λ i. base + i * step) (pos value) last ⌝ }
+    ensures bound { λ r. ⌜ r ≤ last ⌝ }
 {
     let mut level = base;
     let mut i = 0;

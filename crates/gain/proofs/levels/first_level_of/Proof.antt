@@ -4,7 +4,7 @@ use native.Mathlib.Nat.{mul-le-mul}
 use native.Mathlib.Omega.{arith}
 use borrow.Author.Needs.{needs}
 use Rattle.gain.specs.Levels.{firstLevel}
-use Rattle.gain.proofs.FirstLevel.{first-of}
+use Rattle.gain.proofs.FirstLevel.{first-is}
 use Rattle.gain.proofs.levels.first_level_of.Statement.{statement}
 use Rattle.gain.proofs.levels.first_level_of.Tie as tie
 
@@ -47,7 +47,7 @@ returns-2 : tie.Need-returns-2
 returns-2 c =
     let a = c .before .before .before .before .before .args in
     let l = c .before .before .before in
-    let f = first-of (a .g2) (a .q) (a .code) (l .before .if1 .left) in
+    let f = first-is (a .g2) (a .q) (a .code) (l .before .if1 .left) in
     simp (f, c .before .smaller .ensures, c .before .before .level-of2 .ensures, l .level-of .ensures, c .first-step .ensures)
 
 pub first-level-of-spec : {M : Type 1} → statement M

@@ -3,7 +3,7 @@ use mathlib.Core.Path.{_≡_, sym, ap, _∙_, subst⁻¹}
 use Prim.Native.Nat.{ℕ, _/_, _%_, _*_}
 use native.Mathlib.Nat.{mul-one, div-one}
 use lib.Dec.{lit≤}
-use borrow.Author.Needs.{needs}
+use native.Mathlib.Omega.{arith}
 use Rattle.bits.specs.Bits.{value, bits}
 use Rattle.hamming.specs.Word.{lengthOf, dataBits, parity, parityOf}
 use Rattle.hamming.specs.declared.WordLength.{WordLength}
@@ -16,25 +16,25 @@ abbrev Claim : ℕ → ℕ → WordLength → Type 0
 Claim r u l = r ≡ value (parityOf (lengthOf l) (bits (dataBits (lengthOf l)) u))
 
 enum-told : tie.Need-enum-told
-enum-told c = search needs
+enum-told c = omega arith
 
 mul-all-parity : tie.Need-mul-all-parity
-mul-all-parity c = search needs
+mul-all-parity c = omega arith
 
 all-parity-requires : tie.Need-all-parity-requires
-all-parity-requires c κs = search needs
+all-parity-requires c κs = omega arith
 
 enum-told-2 : tie.Need-enum-told-2
-enum-told-2 c = search needs
+enum-told-2 c = omega arith
 
 all-parity-requires-2 : tie.Need-all-parity-requires-2
-all-parity-requires-2 c κs = search needs
+all-parity-requires-2 c κs = omega arith
 
 enum-told-3 : tie.Need-enum-told-3
-enum-told-3 c = search needs
+enum-told-3 c = omega arith
 
 all-parity-requires-3 : tie.Need-all-parity-requires-3
-all-parity-requires-3 c κs = search needs
+all-parity-requires-3 c κs = omega arith
 
 returns : tie.Need-returns
 returns c =

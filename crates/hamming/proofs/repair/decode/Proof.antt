@@ -1,7 +1,7 @@
 -- `hamming::repair::decode` meets its contract: what stands above the word's bits is taken off. Assumes nothing.
 use mathlib.Core.Path.{_≡_, ap, _∙_, sym, subst⁻¹}
 use Prim.Native.Nat.{ℕ}
-use borrow.Author.Needs.{needs}
+use native.Mathlib.Omega.{arith}
 use Rattle.bits.specs.Bits.{bits}
 use Rattle.bits.proofs.Digits.{bits-mod}
 use Rattle.hamming.specs.Word.{lengthOf, decode}
@@ -15,22 +15,22 @@ abbrev Claim : Decoded → ℕ → WordLength → Type 0
 Claim r w l = r ≡ decode (lengthOf l) (bits (lengthOf l) w)
 
 enum-told : tie.Need-enum-told
-enum-told c = search needs
+enum-told c = omega arith
 
 decode-word-requires : tie.Need-decode-word-requires
-decode-word-requires c κs = (ap lengthOf (sym (c .enum-told .given .1)), search needs)
+decode-word-requires c κs = (ap lengthOf (sym (c .enum-told .given .1)), omega arith)
 
 enum-told-2 : tie.Need-enum-told-2
-enum-told-2 c = search needs
+enum-told-2 c = omega arith
 
 decode-word-requires-2 : tie.Need-decode-word-requires-2
-decode-word-requires-2 c κs = (ap lengthOf (sym (c .enum-told2 .given .1)), search needs)
+decode-word-requires-2 c κs = (ap lengthOf (sym (c .enum-told2 .given .1)), omega arith)
 
 enum-told-3 : tie.Need-enum-told-3
-enum-told-3 c = search needs
+enum-told-3 c = omega arith
 
 decode-word-requires-3 : tie.Need-decode-word-requires-3
-decode-word-requires-3 c κs = (ap lengthOf (sym (c .enum-told3 .given .1)), search needs)
+decode-word-requires-3 c κs = (ap lengthOf (sym (c .enum-told3 .given .1)), omega arith)
 
 returns : tie.Need-returns
 returns c =

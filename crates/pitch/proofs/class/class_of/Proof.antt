@@ -7,20 +7,20 @@ use Rattle.bits.specs.Bits.{ones, value, bits}
 use Rattle.bits.proofs.Digits.{value-bits}
 use Rattle.pitch.specs.Pitch.{index}
 use Rattle.pitch.specs.declared.PitchClass.the-variants.{Voiced}
-use Rattle.pitch.proofs.ByOnes.{count-seven, class-few, class-two, class-many}
+use Rattle.pitch.proofs.ByOnes.{count-is, class-few, class-two, class-many}
 use Rattle.pitch.proofs.class.class_of.Statement.{statement}
 use Rattle.pitch.proofs.class.class_of.Tie as tie
 
 returns : tie.Need-returns
 returns c =
     let s = c .before in
-    let h : ones (bits 7 (s .args .code)) < 2 = omega (arith, count-seven (s .args .code) (s .pre)) in
+    let h : ones (bits 7 (s .args .code)) < 2 = omega (arith, count-is (s .args .code) (s .pre)) in
     sym (class-few _ h)
 
 returns-2 : tie.Need-returns-2
 returns-2 c =
     let s = c .before .before in
-    let e = count-seven (s .args .code) (s .pre) in
+    let e = count-is (s .args .code) (s .pre) in
     let h : ones (bits 7 (s .args .code)) < 3 = omega (arith, e) in
     let l : 2 ≤ ones (bits 7 (s .args .code)) = omega (arith, e) in
     sym (class-two _ l h)
@@ -32,7 +32,7 @@ returns-3 : tie.Need-returns-3
 returns-3 c =
     let s = c .before .before .before in
     let code = s .args .code in
-    let l : 3 ≤ ones (bits 7 code) = omega (arith, count-seven code (s .pre)) in
+    let l : 3 ≤ ones (bits 7 code) = omega (arith, count-is code (s .pre)) in
     ap Voiced (c .index-of .ensures ∙ ap index (sym (value-bits 7 code (s .pre)))) ∙ sym (class-many (bits 7 code) l)
 
 pub class-of-spec : {M : Type 1} → statement M

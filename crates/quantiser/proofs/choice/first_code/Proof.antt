@@ -10,7 +10,7 @@ use borrow.Author.Needs.{needs}
 use Rattle.gain.specs.Levels.{apart}
 use Rattle.quantiser.specs.Choice.{steady, sevenLevels, chosenG1}
 use Rattle.gain.proofs.FirstLevel.{first-lowest, first-next, first-rises}
-use Rattle.quantiser.proofs.Raise.{nearest-raised}
+use Rattle.quantiser.proofs.RaisedLevels.{nearest-raised}
 use Rattle.quantiser.proofs.choice.first_code.Statement.{statement}
 use Rattle.quantiser.proofs.choice.first_code.Tie as tie
 

@@ -10,7 +10,7 @@ use mir.ValLaws.{toZ-ofZ}
 use borrow.Author.Needs.{needs}
 use Rattle.gain.specs.Levels.{apart, mean, firstLevel}
 use Rattle.quantiser.specs.Choice.{distance}
-use Rattle.quantiser.proofs.Raise.{apart-raised}
+use Rattle.quantiser.proofs.RaisedLevels.{apart-raised}
 use Rattle.quantiser.proofs.choice.is_steady.Statement.{statement}
 use Rattle.quantiser.proofs.choice.is_steady.Tie as tie
 

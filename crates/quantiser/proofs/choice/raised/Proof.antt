@@ -5,7 +5,7 @@ use lib.IntN.{pos, _+ℤ_}
 use mir.Syntax.{w32}
 use mir.Val.{SFits}
 use mir.ValLaws.{toZ-ofZ}
-use Rattle.quantiser.proofs.Raise.{raised-in-range}
+use Rattle.quantiser.proofs.RaisedLevels.{raised-in-range}
 use Rattle.quantiser.proofs.choice.raised.Statement.{statement}
 use Rattle.quantiser.proofs.choice.raised.Tie as tie
 

@@ -7,7 +7,7 @@ use mir.Syntax.{w32}
 use mir.ValLaws.{toZ-ofZ}
 use borrow.Author.Needs.{needs}
 use Rattle.gain.specs.Levels.{level}
-use Rattle.quantiser.proofs.Raise.{nearest-raised}
+use Rattle.quantiser.proofs.RaisedLevels.{nearest-raised}
 use Rattle.quantiser.proofs.choice.second_code.Statement.{statement}
 use Rattle.quantiser.proofs.choice.second_code.Tie as tie
 

@@ -9,7 +9,7 @@ use Rattle.receiver.specs.Receiving.{receive}
 use Rattle.records.specs.declared.Record.{Record}
 use Rattle.receiver.specs.declared.Received.{Received}
 use Rattle.calls.specs.Model.{answerOf, outcomeOf, receiveKind}
-use Rattle.calls.specs.Observed.{ReceiveCall, ReceiveStep}
+use Rattle.calls.specs.Calls.{ReceiveCall, ReceiveStep}
 use Rattle.calls.specs.CodeCalls.{receiveCall, InPlaceSays, Way, by-value, in-place, CodeReceivesBy, CodeReceives}
 
 -- there is such a call of each way for every record and frame
@@ -30,16 +30,16 @@ pub in-place-says : InPlaceSays
 in-place-says M 𝓤 H κs A m run rec bytes rec′ bytes′ r = (refl, refl)
 
 -- the definition's answer and record are the model's step
-step-by : (given : Record) (bytes : List ℕ) (y : Received) → y ≡ receive defaultOrder given bytes
+receive-step : (given : Record) (bytes : List ℕ) (y : Received) → y ≡ receive defaultOrder given bytes
     → ReceiveStep defaultOrder (receiveCall given bytes (y .answer) (y .next))
 unfolding receive
-step-by given bytes y e = ap outcomeOf e
+receive-step given bytes y e = ap outcomeOf e
 
 -- so a receiving call of the code does what the model does
-by-way : (way : Way) (c : ReceiveCall receiveKind) → CodeReceivesBy way c → ReceiveStep defaultOrder c
+way-step : (way : Way) (c : ReceiveCall receiveKind) → CodeReceivesBy way c → ReceiveStep defaultOrder c
 unfolding receive
-by-way by-value c k = subst⁻¹ (ReceiveStep defaultOrder) (k .observed) (step-by (k .passed .0) (k .passed .1 .0 .now) (k .gave) (k .contract))
-by-way in-place c h = λ i. record { answer = answerOf (h .0 i); state = h .1 i }
+way-step by-value c k = subst⁻¹ (ReceiveStep defaultOrder) (k .observed) (receive-step (k .passed .0) (k .passed .1 .0 .now) (k .gave) (k .contract))
+way-step in-place c h = λ i. record { answer = answerOf (h .0 i); state = h .1 i }
 
 pub code-receives : (c : ReceiveCall receiveKind) → CodeReceives c → ReceiveStep defaultOrder c
-code-receives c k = by-way (k .0) c (k .1)
+code-receives c k = way-step (k .0) c (k .1)

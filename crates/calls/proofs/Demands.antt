@@ -4,13 +4,13 @@ use Rattle.order.specs.Order.{defaultOrder}
 use Rattle.order.proofs.Default.{default-order}
 use Rattle.damage.proofs.Neighbours.{seven-neighbours-correctable}
 use Rattle.frame.specs.Packing.{packAnswer, packWrites}
-use Rattle.calls.specs.Observed.{PackStep, ReceiveStep}
+use Rattle.calls.specs.Calls.{PackStep, ReceiveStep}
 use Rattle.calls.specs.CodeCalls.{CodePacks, CodeReceivesBy, CodeReceives}
 use Rattle.calls.specs.Demands.{Demand2, Demand3, SessionsHad}
 use Rattle.calls.proofs.Demand2.{defined-return, calls-return}
 use Rattle.calls.proofs.Demand3.{claim}
-use Rattle.calls.proofs.CodePacks.{code-packs, pack-had}
-use Rattle.calls.proofs.CodeReceives.{code-receives, receive-had}
+use Rattle.calls.proofs.PackingCalls.{code-packs, pack-had}
+use Rattle.calls.proofs.ReceivingCalls.{code-receives, receive-had}
 use Rattle.calls.proofs.Sessions.{sessions}
 
 pub demand-2 : Demand2

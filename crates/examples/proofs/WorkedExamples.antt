@@ -12,12 +12,12 @@ use Rattle.reading.specs.Reading.{read}
 use Rattle.records.specs.Records.{fresh}
 use Rattle.receiver.specs.Steps.{accepted, repeated}
 use Rattle.receiver.specs.Receiving.{receive}
-use Rattle.examples.specs.Worked.{Worked}
+use Rattle.examples.specs.WorkedExamples.{WorkedExamples}
 
-pub worked : Worked
+pub worked-examples : WorkedExamples
 unfolding index classOf voicedFrom codeOf fixOf decode placeOf orderBy defaultOrder frameOf bitAt through firstLevel nearest chosenG1 chooseAnswer
     words others unvoicedWords voicedWords logical packAnswer packWrites read fresh accepted repeated receive
-worked = record {
+worked-examples = record {
   voiced-set = record { answer = refl; packed = refl; received = refl; bandpass-one = refl };
   repeat = record { level-kept = refl };
   record-range = record { highest = refl; past = refl };

@@ -13,7 +13,7 @@ use Rattle.bits.specs.Lists.{writtenUnless}
 use Rattle.frame.specs.Packing.{packRefusal, packedUnless, packAnswer, packWrites}
 use Rattle.sets.specs.declared.ParameterSet.{ParameterSet}
 use Rattle.calls.specs.Model.{done, packUnless, packKind}
-use Rattle.calls.specs.Observed.{PackCall, PackStep}
+use Rattle.calls.specs.Calls.{PackCall, PackStep}
 use Rattle.calls.specs.CodeCalls.{packCall, CodePacks}
 
 -- there is such a call for all arguments
@@ -30,16 +30,16 @@ pack-had set sync lent = record {
 
 module _ (ord : List ℕ) (set : ParameterSet) (sync : Bool) where
   -- the frame stands in front of what is written
-  front : (rest : List ℕ) → take 7 (frame ord set sync ++ rest) ≡ frame ord set sync
-  front rest =
+  frame-front : (rest : List ℕ) → take 7 (frame ord set sync ++ rest) ≡ frame ord set sync
+  frame-front rest =
       ap (λ (n : ℕ). take n (frame ord set sync ++ rest)) (sym (frame-length ord (logicalOf set sync))) ∙ take-append-seam (frame ord set sync) rest
 
   -- what the contract says is the model's step, whatever the refusal
   pub pack-step : (lent : List ℕ) (n : ℕ) → packRefusal set (length lent) ≡ n
       → PackStep ord (packCall set sync lent (packedUnless n sync) (writtenUnless n 7 (frame ord set sync) lent))
   pack-step lent zero e = record {
-    outcome = (λ i. record { answer = done (front (drop 7 lent) i); state = not sync }) ∙ sym (ap (λ (n : ℕ). packUnless n ord sync set) e);
-    output = ap (λ (l : List ℕ). l ++ drop 7 lent) (sym (front (drop 7 lent)));
+    outcome = (λ i. record { answer = done (frame-front (drop 7 lent) i); state = not sync }) ∙ sym (ap (λ (n : ℕ). packUnless n ord sync set) e);
+    output = ap (λ (l : List ℕ). l ++ drop 7 lent) (sym (frame-front (drop 7 lent)));
   }
   pack-step lent (suc n) e = record { outcome = sym (ap (λ (n : ℕ). packUnless n ord sync set) e); output = refl }
 

@@ -11,11 +11,11 @@ use Rattle.quantiser.specs.Choice.{distance, nearest, levelInRange}
 use Rattle.quantiser.proofs.Thresholds.{uniform, index, distance-is}
 
 -- what is at the same distances has the same nearest index
-nearest-same : (lv mv : ℕ → ℕ) (x y : ℤ) → ((i : ℕ) → distance x (lv i) ≡ distance y (mv i)) →
+nearest-ext : (lv mv : ℕ → ℕ) (x y : ℤ) → ((i : ℕ) → distance x (lv i) ≡ distance y (mv i)) →
     (n : ℕ) → nearest lv x n ≡ nearest mv y n
 unfolding nearest
-nearest-same lv mv x y h zero = refl
-nearest-same lv mv x y h (suc n) = simp (nearest-same lv mv x y h n, h)
+nearest-ext lv mv x y h zero = refl
+nearest-ext lv mv x y h (suc n) = simp (nearest-ext lv mv x y h n, h)
 
 -- both raised by s: the same difference
 difference-raised : (x : ℤ) (s l : ℕ) → (x +ℤ pos s) -ℤ pos (s + l) ≡ x -ℤ pos l
@@ -38,7 +38,7 @@ module _ (x : ℤ) (s v : ℕ) (e : pos v ≡ x +ℤ pos s) where
   pub nearest-raised : (lv : ℕ → ℕ) (base step : ℕ) → ((i : ℕ) → base + i * step ≡ s + lv i) →
       (n : ℕ) → index base step v n ≡ nearest lv x n
   nearest-raised lv base step h n =
-      nearest-same (uniform base step) lv (pos v) x (λ i. ap (λ (l : ℕ). distance (pos v) l) (h i) ∙ distance-raised (lv i)) n
+      nearest-ext (uniform base step) lv (pos v) x (λ i. ap (λ (l : ℕ). distance (pos v) l) (h i) ∙ distance-raised (lv i)) n
 
 -- a level in range, raised by 18600, is at least 0 and at most 55800
 pub raised-in-range : (x : ℤ) → levelInRange x ≡ true → (v : ℕ) × (x +ℤ pos 18600 ≡ pos v) × (v ≤ 55800)

@@ -15,7 +15,7 @@ use Rattle.receiver.specs.Receiving.{receiveRefusal, receive}
 use Rattle.receiver.proofs.Refusals.{not-refused, not-refused-only}
 use Rattle.receiver.proofs.Validity.{receive-valid}
 use Rattle.calls.specs.Model.{receiveKind}
-use Rattle.calls.specs.Observed.{ReceiveCall, frameIn, receiveCallRefusal, ReceiveRun, keepUnless, unrefused}
+use Rattle.calls.specs.Calls.{ReceiveCall, frameIn, receiveCallRefusal, ReceiveRun, keepUnless, unrefused}
 use Rattle.calls.specs.Script.{Wish, next, other, nexts, OtherRefused, Granted}
 use Rattle.calls.specs.CodeCalls.{receiveCall}
 use Rattle.calls.proofs.Runs.{refused-left-out}
@@ -36,8 +36,8 @@ module _ (ord : List ℕ) {Way : Type 0} (Receives : Way → ReceiveCall receive
   -- one more call that takes a frame
   module _ (r : Record) (v : T (valid r)) (b : List ℕ) (way : Way) (script : List (Wish Way)) (bs : List (List ℕ))
       (rest : Served (receive ord r b .next) script bs) where
-    serve-next : frameRefusal b ≡ 0 → Served r (next way ∷ script) (b ∷ bs)
-    serve-next e =
+    next-served : frameRefusal b ≡ 0 → Served r (next way ∷ script) (b ∷ bs)
+    next-served e =
         let taken = not-refused r b e v in
         record {
           receives = receiveOne ord r b ∷ rest .receives;
@@ -49,8 +49,8 @@ module _ (ord : List ℕ) {Way : Type 0} (Receives : Way → ReceiveCall receive
         }
 
     -- and one that is refused
-    serve-other : ¬ (frameRefusal b ≡ 0) → Served r (other way b ∷ script) bs
-    serve-other e = record {
+    other-served : ¬ (frameRefusal b ≡ 0) → Served r (other way b ∷ script) bs
+    other-served e = record {
       receives = receiveOne ord r b ∷ rest .receives;
       granted = (receive-had way r b, refl, rest .granted);
       run = (refl, (way, receive-had way r b), rest .run);
@@ -59,13 +59,13 @@ module _ (ord : List ℕ) {Way : Type 0} (Receives : Way → ReceiveCall receive
           ∙ rest .delivered;
     }
 
-  pub serve : (r : Record) (script : List (Wish Way)) (bs : List (List ℕ)) → T (valid r) → nexts script ≡ length bs → Every OtherRefused script
+  pub script-served : (r : Record) (script : List (Wish Way)) (bs : List (List ℕ)) → T (valid r) → nexts script ≡ length bs → Every OtherRefused script
       → Every (λ b. frameRefusal b ≡ 0) bs → Served r script bs
-  serve r [] [] v n q h = record { receives = []; granted = tt; run = tt; delivered = refl }
-  serve r [] (b ∷ bs) v n q h = absurd (omega arith)
-  serve r (next way ∷ script) [] v n q h = absurd (omega arith)
-  serve r (next way ∷ script) (b ∷ bs) v n q h =
+  script-served r [] [] v n q h = record { receives = []; granted = tt; run = tt; delivered = refl }
+  script-served r [] (b ∷ bs) v n q h = absurd (omega arith)
+  script-served r (next way ∷ script) [] v n q h = absurd (omega arith)
+  script-served r (next way ∷ script) (b ∷ bs) v n q h =
       let m : nexts script ≡ length bs = omega arith in
-      serve-next r v b way script bs (serve (receive ord r b .next) script bs (receive-valid ord r b v) m (q .1) (h .1)) (h .0)
-  serve r (other way b ∷ script) bs v n q h =
-      serve-other r v b way script bs (serve (receive ord r b .next) script bs (receive-valid ord r b v) n (q .1) h) (q .0)
+      next-served r v b way script bs (script-served (receive ord r b .next) script bs (receive-valid ord r b v) m (q .1) (h .1)) (h .0)
+  script-served r (other way b ∷ script) bs v n q h =
+      other-served r v b way script bs (script-served (receive ord r b .next) script bs (receive-valid ord r b v) n (q .1) h) (q .0)

@@ -8,7 +8,7 @@ use native.Mathlib.Omega.{arith}
 use lib.IntN.{ℤ}
 use Rattle.gain.specs.Levels.{level, mean, firstLevel}
 use Rattle.quantiser.specs.Choice.{distance, nearest, sevenLevels, steady, chosenG2, chosenG1}
-use Rattle.quantiser.proofs.Nearest.{nearest-le, nearest-least, nearest-lower}
+use Rattle.quantiser.proofs.NearestLevel.{nearest-le, nearest-least, nearest-lower}
 
 module _ (second : ℤ) where
   -- the second code is at most 31
@@ -40,9 +40,9 @@ module _ (first : ℤ) (g2 q : ℕ) where
   first-le = code-le (steady first g2 q) (nearest-le (sevenLevels g2 q) first 6)
 
   -- code 0 is chosen in a steady frame only
-  pub first-zero : chosenG1 first g2 q ≡ 0 → steady first g2 q ≡ true
+  pub first-zero-only : chosenG1 first g2 q ≡ 0 → steady first g2 q ≡ true
   unfolding chosenG1
-  first-zero e = code-zero (steady first g2 q) _ e
+  first-zero-only e = code-zero (steady first g2 q) _ e
 
   -- and in every one; it decodes to the mean of both second levels
   pub first-steady : steady first g2 q ≡ true → (chosenG1 first g2 q ≡ 0) × (firstLevel g2 (chosenG1 first g2 q) q ≡ mean g2 q)

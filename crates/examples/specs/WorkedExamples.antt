@@ -87,7 +87,7 @@ pub record Limits : Type 0 where
   pub aperiodic : packRefusal (setOf 127 63 63 63 31 7 98 15 2) 7 ≡ 5
 
 -- all together
-pub record Worked : Type 0 where
+pub record WorkedExamples : Type 0 where
   pub voiced-set : VoicedSet
   pub repeat : Repeat
   pub record-range : RecordRange

@@ -15,7 +15,7 @@ use Rattle.receiver.specs.Receiving.{receive}
 use Rattle.codebook.specs.Rows.{stageStart, allFit}
 use Rattle.spectra.specs.Values.{added, raised, lsfValues, lsfAnswer, lsfWrites}
 use Rattle.examples.specs.Examples.{Examples}
-use Rattle.examples.proofs.Muted.{mutes}
+use Rattle.examples.proofs.Mute.{mutes}
 
 pub examples : Examples
 unfolding index classOf classAnswer fixOf decode firstLevel firstLevelAnswer nearest chosenG1 chooseAnswer placeOf orderBy defaultOrder frameOf bitAt through
