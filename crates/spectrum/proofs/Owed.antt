@@ -7,8 +7,8 @@ use lib.IntN.{ℤ}
 use lib.ListN.{length}
 use Rattle.sets.specs.declared.ParameterSet.{ParameterSet}
 use Rattle.receiver.specs.Receiving.{firstRefusal}
-use Rattle.spectra.specs.Values.{lsfRefusal, lsfAnswer, lsfWrites, magnitudesRefusal, magnitudesAnswer, magnitudesWrites}
-use Rattle.spectra.specs.declared.ValuesAnswer.{ValuesAnswer}
+use Rattle.codebook_values.specs.Values.{lsfRefusal, lsfAnswer, lsfWrites, magnitudesRefusal, magnitudesAnswer, magnitudesWrites}
+use Rattle.codebook_values.specs.declared.ValuesAnswer.{ValuesAnswer}
 use Rattle.codebook_text.specs.Text.{textRefusal, textAnswer, textWrites, numbers}
 use Rattle.codebook_text.specs.declared.TextAnswer.{TextAnswer}
 use Rattle.codebook_text.proofs.Answers.{all-new}

@@ -3,7 +3,7 @@ use mathlib.Core.Path.{_≡_, refl}
 use Prim.Native.Nat.{ℕ, zero, suc}
 use native.Mathlib.Omega.{arith}
 use Rattle.receiver.specs.Receiving.{firstRefusal}
-use Rattle.spectra.specs.Values.{valuesUnless}
+use Rattle.codebook_values.specs.Values.{valuesUnless}
 use Rattle.codebook_text.specs.Text.{filledUnless}
 use Rattle.spectrum.specs.Values.{textNumber, valuesNumber}
 

@@ -11,10 +11,10 @@ use Rattle.receiver.specs.Receiving.{receive, firstRefusal}
 use Rattle.receiver.specs.declared.ReceiveAnswer.{ReceiveAnswer}
 use Rattle.receiver.specs.declared.ReceiveAnswer.the-variants.{Result, Refused}
 use Rattle.codebook.specs.Rows.{lsfSize, magnitudeSize}
-use Rattle.spectra.specs.Values.{lsfRefusal, lsfWrites, magnitudesRefusal, magnitudesWrites}
-use Rattle.spectra.specs.declared.ValuesAnswer.{ValuesAnswer}
-use Rattle.spectra.specs.declared.ValuesAnswer.the-variants.{Written}
-use Rattle.spectra.specs.declared.ValuesAnswer.the-variants.{Refused as Values·Refused}
+use Rattle.codebook_values.specs.Values.{lsfRefusal, lsfWrites, magnitudesRefusal, magnitudesWrites}
+use Rattle.codebook_values.specs.declared.ValuesAnswer.{ValuesAnswer}
+use Rattle.codebook_values.specs.declared.ValuesAnswer.the-variants.{Written}
+use Rattle.codebook_values.specs.declared.ValuesAnswer.the-variants.{Refused as Values·Refused}
 use Rattle.codebook_text.specs.Text.{textRefusal, numbers}
 use Rattle.codebook_text.specs.declared.TextAnswer.{TextAnswer}
 use Rattle.codebook_text.specs.declared.TextAnswer.the-variants.{Filled}

@@ -1,0 +1,104 @@
+-- `codebook_values::values::magnitudes` meets its contract: an unvoiced set has ten equal ones, a voiced set what its row owes. Assumes nothing.
+use mathlib.Core.Path.{sym, ap, _∙_}
+use Prim.Native.Nat.{_<_}
+use native.Mathlib.Omega.{arith}
+use lib.ListN.{length}
+use borrow.Author.Needs.{needs}
+use Rattle.codebook.specs.Rows.{magnitudeSize}
+use Rattle.codebook.proofs.Handed.{magnitude-handed}
+use Rattle.codebook_values.specs.Values.{magnitudes, magnitudesFit, magnitudesAnswer, magnitudesWrites}
+use Rattle.codebook_values.proofs.Owed.{early-owes, Passed, passed, rows-owe, owed-same}
+use Rattle.codebook_values.proofs.values.magnitudes.Statement.{statement}
+use Rattle.codebook_values.proofs.values.magnitudes.Tie as tie
+
+values-refusal-requires : tie.Need-values-refusal-requires
+values-refusal-requires c κs = search needs
+
+returns : tie.Need-returns
+unfolding magnitudesAnswer magnitudesWrites
+returns c =
+    let a = c .before .before .args in
+    early-owes (a .set) (a .codebook .now) magnitudeSize (a .out .now) (magnitudes (a .codebook .now) (a .set)) (magnitudesFit (a .codebook .now) (a .set))
+    (c .before .values-refusal .result) (c .before .values-refusal .ensures) (c .if1 .taken)
+
+enum-known-set : tie.Need-enum-known-set
+enum-known-set c = search needs
+
+enum-told : tie.Need-enum-told
+enum-told c = search needs
+
+slice-aggregate-write-row : tie.Need-slice-aggregate-write-row
+slice-aggregate-write-row c = search needs
+
+-- what is known past the first tests
+past : (c : tie.Else1) → let a = c .before .before .args in Passed (a .set) (a .codebook .now) magnitudeSize (length (a .out .now))
+past c =
+    let a = c .before .before .args in
+    passed (a .set) (a .codebook .now) magnitudeSize (length (a .out .now)) (c .before .values-refusal .result) (c .before .values-refusal .ensures) (c .if1 .left)
+
+write-row-requires : tie.Need-write-row-requires
+write-row-requires c κs = past (c .before .before .before .before) .long
+
+same-length : tie.Need-same-length
+same-length c = search needs
+
+returns-2 : tie.Need-returns-2
+unfolding magnitudesAnswer magnitudesWrites
+returns-2 c =
+    let w = c .before in
+    let u = w .before .before .before in
+    let e = u .before .before in
+    let a = e .before .before .args in
+    let k = a .codebook .now in
+    let told = sym (u .enum-told .given .1) in
+    rows-owe (a .set) k magnitudeSize (a .out .now) (magnitudes k (a .set)) (magnitudesFit k (a .set)) (past e) _ _
+    (owed-same (a .out .now) _ _ _ _ _ _ (ap (magnitudesFit k) told) (λ t. ap (magnitudes k) told) (w .write-row .ensures))
+
+cast-magnitude-row : tie.Need-cast-magnitude-row
+cast-magnitude-row c = search needs
+
+magnitude-row-requires : tie.Need-magnitude-row-requires
+magnitude-row-requires c κs = search needs
+
+-- the row's index is a byte
+index-lt : (c : tie.After-magnitude-row) → c .before .before .before .set .given .0 .1 .0 .fourier < 256
+index-lt c = omega arith
+
+write-row-requires-2 : tie.Need-write-row-requires-2
+write-row-requires-2 c κs = past (c .before .before .before .before .before .before) .long
+
+same-length-2 : tie.Need-same-length-2
+same-length-2 c = search needs
+
+returns-3 : tie.Need-returns-3
+unfolding magnitudesAnswer magnitudesWrites
+returns-3 c =
+    let w = c .before in
+    let r = w .before .before in
+    let v = r .before .before .before in
+    let e = v .before .before in
+    let a = e .before .before .args in
+    let k = a .codebook .now in
+    let told = sym (v .set .given .1) in
+    let fit = ap (magnitudesFit k) told in
+    let h = magnitude-handed k (v .set .given .0 .1 .0 .fourier) _ (past e .whole) (index-lt r) (r .magnitude-row .ensures) in
+    rows-owe (a .set) k magnitudeSize (a .out .now) (magnitudes k (a .set)) (magnitudesFit k (a .set)) (past e) _ _
+    (owed-same (a .out .now) _ _ _ _ _ _ (h .ten ∙ fit) (λ t. h .whole (fit ∙ t) ∙ ap (magnitudes k) told) (w .write-row2 .ensures))
+
+pub magnitudes-spec : {M : Type 1} → statement M
+magnitudes-spec =
+    tie.close
+    (tie.spec
+    values-refusal-requires
+    returns
+    enum-known-set
+    enum-told
+    slice-aggregate-write-row
+    write-row-requires
+    same-length
+    returns-2
+    cast-magnitude-row
+    magnitude-row-requires
+    write-row-requires-2
+    same-length-2
+    returns-3)
