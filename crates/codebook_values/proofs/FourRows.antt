@@ -13,7 +13,7 @@ use Rattle.sets.specs.declared.Indices.{Indices}
 use Rattle.sets.specs.declared.ParameterSet.{ParameterSet}
 use Rattle.sets.proofs.Ranges.{IndexRanges, set-ranges}
 use Rattle.codebook.specs.Rows.{lsfSize, lsfRow, lsfRowRefusal, rowUnless}
-use Rattle.codebook.proofs.Handed.{lsf-handed}
+use Rattle.codebook.proofs.Answers.{lsf-row-handed}
 use Rattle.codebook_values.specs.Values.{rowsValues, rowsFit, ofRows}
 
 -- the parts of a test of four
@@ -43,10 +43,10 @@ pub four-handed : (k : List ℤ) (set : ParameterSet) (x : Indices) → length k
     → FourHanded k set a b c d
 four-handed k set x whole t e a b c d ea eb ec ed =
     let range : IndexRanges x = rw e (set-ranges set (T-true (inRange set) t)) in
-    let p = lsf-handed k 1 (x .l1) a whole (range .l1) ea in
-    let q = lsf-handed k 2 (x .l2) b whole (range .l2) eb in
-    let r = lsf-handed k 3 (x .l3) c whole (range .l3) ec in
-    let s = lsf-handed k 4 (x .l4) d whole (range .l4) ed in
+    let p = lsf-row-handed k 1 (x .l1) a whole (range .l1) ea in
+    let q = lsf-row-handed k 2 (x .l2) b whole (range .l2) eb in
+    let r = lsf-row-handed k 3 (x .l3) c whole (range .l3) ec in
+    let s = lsf-row-handed k 4 (x .l4) d whole (range .l4) ed in
     let fits : tens a b c d ≡ ofRows rowsFit k (indicesIn set) = (λ i. p .ten i && q .ten i && r .ten i && s .ten i) ∙ ap (ofRows rowsFit k) e in
     record {
       fit = fits;

@@ -1,8 +1,8 @@
 pub mod Sizes
 pub mod Sums
-pub mod Raised
-pub mod Spaced
-pub mod Tens
-pub mod Owed
+pub mod Turns
+pub mod Spacing
+pub mod Lengths
+pub mod Answers
 pub mod FourRows
 pub mod Examples

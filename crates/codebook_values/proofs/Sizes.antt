@@ -29,39 +29,39 @@ pub back : (z : ℤ) → mag z < 2 ^ 63 → toZ w64 (ofZ w64 z) ≡ z
 back z h = toZ-ofZ w64 z (record { sfits = h })
 
 -- the size of a difference of two naturals
-sub-abs : (a b : ℕ) → natAbs (subℕ a b) ≤ a + b
-sub-abs a b = go (ltb a b) refl
+sub-abs-le : (a b : ℕ) → natAbs (subℕ a b) ≤ a + b
+sub-abs-le a b = go (ltb a b) refl
   where
     go : (t : Bool) → ltb a b ≡ t → natAbs (cond t (negsuc (b - suc a)) (pos (a - b))) ≤ a + b
     go true e = omega (arith, ltb-true a b e)
     go false e = omega arith
 
 -- a sum is at most as large as both numbers together
-pub abs-add : (x y : ℤ) → natAbs (x +ℤ y) ≤ natAbs x + natAbs y
-abs-add (pos a) (pos b) = omega arith
-abs-add (pos a) (negsuc b) = sub-abs a (suc b)
-abs-add (negsuc a) (pos b) = omega (arith, sub-abs b (suc a))
-abs-add (negsuc a) (negsuc b) = omega arith
+pub abs-add-le : (x y : ℤ) → natAbs (x +ℤ y) ≤ natAbs x + natAbs y
+abs-add-le (pos a) (pos b) = omega arith
+abs-add-le (pos a) (negsuc b) = sub-abs-le a (suc b)
+abs-add-le (negsuc a) (pos b) = omega (arith, sub-abs-le b (suc a))
+abs-add-le (negsuc a) (negsuc b) = omega arith
 
 -- the larger of two numbers has the size of one of them
-pub abs-larger : (x y : ℤ) (n : ℕ) → natAbs x ≤ n → natAbs y ≤ n → natAbs (larger x y) ≤ n
-abs-larger x y n hx hy = go (ltZ x y)
+pub abs-larger-le : (x y : ℤ) (n : ℕ) → natAbs x ≤ n → natAbs y ≤ n → natAbs (larger x y) ≤ n
+abs-larger-le x y n hx hy = go (ltZ x y)
   where
     go : (t : Bool) → natAbs (cond t y x) ≤ n
     go true = hy
     go false = hx
 
 -- an LSF entry within its limit
-pub lsf-abs : (z : ℤ) → lsfFits z ≡ true → natAbs z ≤ 4000000000
-lsf-abs (pos n) e = leb-true n 4000000000 e
-lsf-abs (negsuc n) e = omega (arith, leb-true n 3999999999 (and-eq-true-iff _ true .0 e .0))
+pub lsf-abs-le : (z : ℤ) → lsfFits z ≡ true → natAbs z ≤ 4000000000
+lsf-abs-le (pos n) e = leb-true n 4000000000 e
+lsf-abs-le (negsuc n) e = omega (arith, leb-true n 3999999999 (and-eq-true-iff _ true .0 e .0))
 
 -- four entries within the limit add up to at most 16,000,000,000 on either side of 0
-pub four-abs : (a b c d : ℤ) → lsfFits a ≡ true → lsfFits b ≡ true → lsfFits c ≡ true → lsfFits d ≡ true
+pub four-abs-le : (a b c d : ℤ) → lsfFits a ≡ true → lsfFits b ≡ true → lsfFits c ≡ true → lsfFits d ≡ true
     → natAbs (a +ℤ b +ℤ c +ℤ d) ≤ 16000000000
-four-abs a b c d ha hb hc hd =
-    omega (arith, lsf-abs a ha, lsf-abs b hb, lsf-abs c hc, lsf-abs d hd, abs-add a b, abs-add (a +ℤ b) c, abs-add (a +ℤ b +ℤ c) d)
+four-abs-le a b c d ha hb hc hd =
+    omega (arith, lsf-abs-le a ha, lsf-abs-le b hb, lsf-abs-le c hc, lsf-abs-le d hd, abs-add-le a b, abs-add-le (a +ℤ b) c, abs-add-le (a +ℤ b +ℤ c) d)
 
 -- such an entry is read back from its bits
 pub lsf-back : (z : ℤ) → lsfFits z ≡ true → toZ w64 (ofZ w64 z) ≡ z
-lsf-back z e = toZ-ofZ w64 z (abs-fits z (omega (arith, lsf-abs z e)))
+lsf-back z e = toZ-ofZ w64 z (abs-fits z (omega (arith, lsf-abs-le z e)))

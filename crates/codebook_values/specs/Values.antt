@@ -1,18 +1,19 @@
 -- Document 01, "LSF and magnitude values" and "Refusals by place": the ten values of a set, and what a call for them answers and leaves.
 -- LSF values are those of MIL-STD-3005, 5.3.4, magnitudes those of 5.3.5.
 use Prim.Native.Nat.{ℕ, zero, suc}
-use mathlib.Core.Bool.{Bool, true, _&&_, cond}
+use mathlib.Core.Bool.{Bool, true, not, _&&_, cond}
 use mathlib.Core.List.{List, [], _∷_}
 use lib.Dec.{ltb, eqb}
 use lib.ListN.{length, replicate}
 use lib.IntN.{ℤ, pos, _+ℤ_}
 use lib.Signed.{ltZ}
 use Rattle.bits.specs.Lists.{writtenUnless}
+use Rattle.bits.specs.Refusals.{Table, firstRefusal}
 use Rattle.sets.specs.Sets.{indicesIn, inRange}
 use Rattle.sets.specs.declared.Indices.{Indices}
 use Rattle.sets.specs.declared.ParameterSet.{ParameterSet}
 use Rattle.sets.specs.declared.ParameterSet.the-variants.{Unvoiced, Voiced}
-use Rattle.codebook.specs.Rows.{lsfSize, magnitudeSize, lsfRow, magnitudeRow, lsfFits, magnitudeFits, allFit, refusal}
+use Rattle.codebook.specs.Rows.{lsfSize, magnitudeSize, lsfRow, magnitudeRow, lsfFits, magnitudeFits, allFit}
 use Rattle.codebook_values.specs.declared.ValuesAnswer.{ValuesAnswer}
 use Rattle.codebook_values.specs.declared.ValuesAnswer.the-variants.{Written, Refused}
 
@@ -66,17 +67,32 @@ abbrev pub magnitudesFit : List ℤ → ParameterSet → Bool
 magnitudesFit codebook (Unvoiced x) = true
 magnitudesFit codebook (Voiced x v) = allFit magnitudeFits (magnitudeRow codebook (v .fourier))
 
--- the refusal of values, 0 is none: 1 for an output of fewer than ten numbers, then as for rows
-abbrev pub valuesRefusal : ParameterSet → List ℤ → ℕ → ℕ → Bool → ℕ
-valuesRefusal set codebook size room fit = cond (ltb room 10) 1 (refusal (inRange set) (eqb (length codebook) size) fit)
+-- what refuses LSF values ("Refusals by place"), for an output of `room` numbers: 1, fewer than ten; 5, a set out of range; 6, a codebook of
+-- another length; 7, an entry of one of the set's four rows beyond its limit
+abbrev pub lsfTable : ParameterSet → List ℤ → ℕ → Table
+lsfTable set codebook room =
+    (ltb room 10, 1)
+    ∷ (not (inRange set), 5)
+    ∷ (not (eqb (length codebook) lsfSize), 6)
+    ∷ (not (ofRows rowsFit codebook (indicesIn set)), 7)
+    ∷ []
 
--- of LSF values: the rows in use are the set's four
+-- what refuses magnitudes, likewise
+abbrev pub magnitudesTable : ParameterSet → List ℤ → ℕ → Table
+magnitudesTable set codebook room =
+    (ltb room 10, 1)
+    ∷ (not (inRange set), 5)
+    ∷ (not (eqb (length codebook) magnitudeSize), 6)
+    ∷ (not (magnitudesFit codebook set), 7)
+    ∷ []
+
+-- the refusal of LSF values, 0 is none
 abbrev pub lsfRefusal : ParameterSet → List ℤ → ℕ → ℕ
-lsfRefusal set codebook room = valuesRefusal set codebook lsfSize room (ofRows rowsFit codebook (indicesIn set))
+lsfRefusal set codebook room = firstRefusal (lsfTable set codebook room)
 
--- of magnitudes
+-- and of magnitudes
 abbrev pub magnitudesRefusal : ParameterSet → List ℤ → ℕ → ℕ
-magnitudesRefusal set codebook room = valuesRefusal set codebook magnitudeSize room (magnitudesFit codebook set)
+magnitudesRefusal set codebook room = firstRefusal (magnitudesTable set codebook room)
 
 -- the answer: values written, or the refusal's number
 abbrev pub valuesUnless : ℕ → ValuesAnswer

@@ -29,7 +29,8 @@ pub(crate) fn write_raised(a: &[i64], b: &[i64], c: &[i64], d: &[i64], out: &mut
 fn sum_at(a: &[i64], b: &[i64], c: &[i64], d: &[i64], k: usize) -> i64
     requires { ⌜ (k < length (now a)) × (k < length (now b)) × (k < length (now c)) × (k < length (now d)) ⌝ }
     requires { ⌜ rowsFit (now a) (now b) (now c) (now d) ≡ true ⌝ }
-    ensures { λ r. ⌜ (r ≡ getD (addedFour (now (a .entry)) (now (b .entry)) (now (c .entry)) (now (d .entry))) k (pos 0)) × (natAbs r ≤ 16000000000) ⌝ }
+    ensures equal { λ r. ⌜ r ≡ getD (addedFour (now (a .entry)) (now (b .entry)) (now (c .entry)) (now (d .entry))) k (pos 0) ⌝ }
+    ensures bound { λ r. ⌜ natAbs r ≤ 16000000000 ⌝ }
 {
     four_sum(a[k], b[k], c[k], d[k])
 }
@@ -37,7 +38,8 @@ fn sum_at(a: &[i64], b: &[i64], c: &[i64], d: &[i64], k: usize) -> i64
 // The sum of four entries within the limit.
 fn four_sum(a: i64, b: i64, c: i64, d: i64) -> i64
     requires { ⌜ (lsfFits a ≡ true) × (lsfFits b ≡ true) × (lsfFits c ≡ true) × (lsfFits d ≡ true) ⌝ }
-    ensures { λ r. ⌜ (r ≡ a +ℤ b +ℤ c +ℤ d) × (natAbs r ≤ 16000000000) ⌝ }
+    ensures equal { λ r. ⌜ r ≡ a +ℤ b +ℤ c +ℤ d ⌝ }
+    ensures bound { λ r. ⌜ natAbs r ≤ 16000000000 ⌝ }
 {
     sum(sum(sum(a, b), c), d)
 }

@@ -8,9 +8,10 @@ use sets::ParameterSet;
 use sets::indices_of;
 use sets::is_in_range;
 ghost use mathlib.Core.Path.{_≡_};
-ghost use mathlib.Core.Bool.{true};
 ghost use lib.ListN.{length};
-ghost use Rattle.codebook_values.specs.Values.{valuesRefusal, lsfAnswer, lsfWrites, magnitudesAnswer, magnitudesWrites};
+ghost use Rattle.bits.specs.Refusals.{firstRefusal};
+ghost use Rattle.codebook_values.specs.Values.{lsfAnswer, lsfWrites, magnitudesAnswer, magnitudesWrites};
+ghost use Rattle.codebook_values.specs.Checks.{earlyTable};
 
 // How many numbers each codebook has.
 const LSF_SIZE: usize = 3200;
@@ -60,7 +61,7 @@ pub fn magnitudes(set: ParameterSet, codebook: &[i64], out: &mut [i64]) -> Value
 
 // What is refused before any row is looked at, for a codebook of `size` numbers and an output of `room` numbers.
 fn values_refusal(set: ParameterSet, codebook: &[i64], size: usize, room: usize) -> u8
-    ensures { λ r. ⌜ r ≡ valuesRefusal set (now (codebook .entry)) size room true ⌝ }
+    ensures { λ r. ⌜ r ≡ firstRefusal (earlyTable set (now (codebook .entry)) size room) ⌝ }
 {
     if room < 10 {
         return 1;

@@ -1,18 +1,18 @@
 // A row into the front of an output.
 use crate::ValuesAnswer;
 ghost use mathlib.Core.Path.{_≡_};
-ghost use mathlib.Core.Bool.{cond};
 ghost use Prim.Native.Nat.{_≤_};
 ghost use lib.Dec.{eqb};
 ghost use lib.ListN.{length};
 ghost use Rattle.codebook_values.specs.Values.{valuesUnless};
+ghost use Rattle.codebook_values.specs.Checks.{rowsRefusal};
 ghost use Rattle.bits.specs.Lists.{writtenUnless};
 
 // The ten numbers of a row; one that was refused, and so has no numbers, is refused with 7.
 pub(crate) fn write_row(row: &[i64], out: &mut [i64]) -> ValuesAnswer
     requires { ⌜ 10 ≤ length (now out) ⌝ }
-    ensures answer { λ r. ⌜ r ≡ valuesUnless (cond (eqb (length (now (row .entry))) 10) 0 7) ⌝ }
-    ensures written { λ _. ⌜ now (out .exit) ≡ writtenUnless (cond (eqb (length (now (row .entry))) 10) 0 7) 10 (now (row .entry)) (now (out .entry)) ⌝ }
+    ensures answer { λ r. ⌜ r ≡ valuesUnless (rowsRefusal (eqb (length (now (row .entry))) 10)) ⌝ }
+    ensures written { λ _. ⌜ now (out .exit) ≡ writtenUnless (rowsRefusal (eqb (length (now (row .entry))) 10)) 10 (now (row .entry)) (now (out .entry)) ⌝ }
 {
     if row.len() != 10 {
         return ValuesAnswer::Refused(7);

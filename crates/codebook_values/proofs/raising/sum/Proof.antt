@@ -4,12 +4,12 @@ use lib.IntN.{_+ℤ_}
 use mir.Syntax.{w64}
 use mir.Val.{SFits}
 use mir.ValLaws.{toZ-ofZ}
-use Rattle.codebook_values.proofs.Sizes.{abs-fits, abs-add}
+use Rattle.codebook_values.proofs.Sizes.{abs-fits, abs-add-le}
 use Rattle.codebook_values.proofs.raising.sum.Statement.{statement}
 use Rattle.codebook_values.proofs.raising.sum.Tie as tie
 
 fits : (c : tie.Start) → SFits w64 (c .args .x +ℤ c .args .y)
-fits c = abs-fits _ (omega (arith, abs-add (c .args .x) (c .args .y)))
+fits c = abs-fits _ (omega (arith, abs-add-le (c .args .x) (c .args .y)))
 
 add-result : tie.Need-add-result
 add-result c = simp (toZ-ofZ w64 _ (c .fits .x), toZ-ofZ w64 _ (c .fits .y)) (fits c)

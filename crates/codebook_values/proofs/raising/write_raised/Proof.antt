@@ -1,6 +1,5 @@
--- `codebook_values::raising::write_raised` meets its contract: after k turns the first k values are in front, and `least` is what is asked of
--- the next. Assumes nothing.
-use mathlib.Core.Path.{_≡_, ap, _∙_}
+-- `codebook_values::raising::write_raised` meets its contract: after k turns k values are in front, and `least` is asked of the next. Assumes nothing.
+use mathlib.Core.Path.{_≡_, _∙_}
 use mathlib.Core.List.{List, _++_}
 use Prim.Native.Nat.{_+_, _*_, _-_, _≤_, _<_}
 use native.Mathlib.Omega.{arith}
@@ -9,11 +8,11 @@ use lib.IntN.{ℤ, pos, natAbs, _+ℤ_}
 use mir.Syntax.{w64}
 use mir.Val.{toZ, ofZ}
 use borrow.Author.Needs.{needs}
-use Rattle.bits.proofs.Front.{front-more, front-all}
+use Rattle.bits.proofs.Front.{front-all}
 use Rattle.codebook_values.specs.Values.{addedFour, larger, spacing, raised, rowsValues}
-use Rattle.codebook_values.proofs.Sizes.{back, abs-add, abs-larger}
+use Rattle.codebook_values.proofs.Sizes.{back, abs-add-le, abs-larger-le}
 use Rattle.codebook_values.proofs.Sums.{four-length}
-use Rattle.codebook_values.proofs.Raised.{raised-length, raised-next}
+use Rattle.codebook_values.proofs.Turns.{raised-length, raised-more}
 use Rattle.codebook_values.proofs.raising.write_raised.Statement.{statement}
 use Rattle.codebook_values.proofs.raising.write_raised.Tie as tie
 
@@ -45,28 +44,25 @@ abbrev sums : tie.Start Inv-loop μ-loop → List ℤ
 sums s = addedFour (s .args .a .now) (s .args .b .now) (s .args .c .now) (s .args .d .now)
 
 ten : (s : tie.Start Inv-loop μ-loop) → length (sums s) ≡ 10
-ten s =
-    let p = s .pre .0 in
-    four-length 10 (s .args .a .now) (s .args .b .now) (s .args .c .now) (s .args .d .now) (p .0) (p .1) (p .2) (p .3)
+ten s = let p = s .pre .0 in four-length 10 _ _ _ _ (p .0) (p .1) (p .2) (p .3)
 
--- the value of a turn, and its size
+-- the value of a turn by its sum, by the four rows, and its size
+value-sum : (c : tie.After-larger Inv-loop μ-loop) → c .larger .result ≡ larger (c .before .sum-at .result) (toZ w64 (c .before .before .before .loop .least))
+value-sum c = simp (back (c .before .sum-at .result) (c .before .sum-at .ok)) at (c .larger .ensures)
+
 value-is : (c : tie.After-larger Inv-loop μ-loop) →
-    let L = c .before .before .before .loop in
-    c .larger .result ≡ larger (getD (sums (c .before .before .before .before)) (L .k) (pos 0)) (toZ w64 (L .least))
-value-is c =
-    let L = c .before .before .before .loop in
-    (simp (back (c .before .sum-at .result) (c .before .sum-at .ok)) at (c .larger .ensures))
-    ∙ ap (λ (z : ℤ). larger z (toZ w64 (L .least))) (c .before .sum-at .ensures .0)
+    let l = c .before .before .before in
+    c .larger .result ≡ larger (getD (sums (l .before)) (l .loop .k) (pos 0)) (toZ w64 (l .loop .least))
+value-is c = rw (← c .before .sum-at .ensures .0) (value-sum c)
 
-value-size : (c : tie.After-larger Inv-loop μ-loop) → natAbs (c .larger .result) ≤ 16000000000 + 50000000 * (c .before .before .before .loop .k + 1)
-value-size c =
+value-le : (c : tie.After-larger Inv-loop μ-loop) → natAbs (c .larger .result) ≤ 16000000000 + 50000000 * (c .before .before .before .loop .k + 1)
+value-le c =
     let L = c .before .before .before .loop in
-    let e = simp (back (c .before .sum-at .result) (c .before .sum-at .ok)) at (c .larger .ensures) in
-    rw e (abs-larger (c .before .sum-at .result) (toZ w64 (L .least)) _ (omega (arith, c .before .sum-at .ensures .1)) (L .inv .3))
+    rw (value-sum c) (abs-larger-le (c .before .sum-at .result) (toZ w64 (L .least)) _ (omega (arith, c .before .sum-at .ensures .1)) (L .inv .3))
 
 sum-requires : tie.Need-sum-requires Inv-loop μ-loop
 sum-requires c κs =
-    let h : natAbs (toZ w64 (ofZ w64 (c .larger .result))) ≤ 20000000000 = rw (back (c .larger .result) (c .larger .ok)) (omega (arith, value-size c)) in
+    let h : natAbs (toZ w64 (ofZ w64 (c .larger .result))) ≤ 20000000000 = rw (back (c .larger .result) (c .larger .ok)) (omega (arith, value-le c)) in
     (h, omega arith)
 
 add-k : tie.Need-add-k Inv-loop μ-loop
@@ -80,19 +76,12 @@ loop-again c =
     let v = c .before in
     let L = v .before .before .before .loop in
     let s = v .before .before .before .before in
-    let values = raised spacing (sums s) in
+    let y = toZ w64 (ofZ w64 (v .larger .result)) in
+    let r : y ≡ v .larger .result = back (v .larger .result) (v .larger .ok) in
+    let next : toZ w64 (ofZ w64 (c .sum .result)) ≡ y +ℤ spacing = back (c .sum .result) (c .sum .ok) ∙ c .sum .ensures in
     let h : L .k < length (sums s) = omega (arith, ten s) in
-    let m : L .k < length values = omega (arith, ten s, raised-length spacing (sums s)) in
-    let room : L .k < length (s .args .out .now) = omega arith in
-    let n = raised-next (toZ w64 (L .least)) (sums s) values (L .k) h (L .inv .2) in
-    let r = back (v .larger .result) (v .larger .ok) in
-    let next : toZ w64 (ofZ w64 (c .sum .result)) ≡ v .larger .result +ℤ spacing = back (c .sum .result) (c .sum .ok) ∙ (simp r at (c .sum .ensures)) in (
-      omega arith,
-      search needs,
-      ap (λ (z : ℤ). raised z (drop (L .k + 1) (sums s))) (next ∙ ap (λ (z : ℤ). z +ℤ spacing) (value-is v)) ∙ n .1,
-      rw next (omega (arith, value-size v, abs-add (v .larger .result) spacing)),
-      rw (L .inv .4, r ∙ value-is v ∙ n .0) (front-more values (s .args .out .now) (L .k) (pos 0) room m),
-    )
+    let n = raised-more (sums s) (s .args .out .now) (L .out) (toZ w64 (L .least)) y (L .k) h (omega arith) (r ∙ value-is v) (L .inv .2) (L .inv .4) in
+    (omega arith, search needs, rw next (n .0), rw (next, r) (omega (arith, value-le v, abs-add-le (v .larger .result) spacing)), n .1)
 
 same-length : tie.Need-same-length Inv-loop μ-loop
 same-length c = search needs

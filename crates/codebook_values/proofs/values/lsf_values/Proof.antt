@@ -1,13 +1,13 @@
 -- `codebook_values::values::lsf_values` meets its contract: the rows of a set in range are handed out, and what they owe is the call's.
 -- Assumes nothing.
-use mathlib.Core.Path.{sym, _∙_}
+use mathlib.Core.Path.{refl, sym, _∙_}
 use lib.ListN.{length}
 use borrow.Author.Needs.{needs}
 use borrow.Author.Tests.{eqb-true}
 use Rattle.sets.specs.Sets.{indicesIn}
 use Rattle.codebook.specs.Rows.{lsfSize}
 use Rattle.codebook_values.specs.Values.{rowsFit, ofRows, lsfValues, lsfAnswer, lsfWrites}
-use Rattle.codebook_values.proofs.Owed.{early-owes, Passed, passed, rows-owe, owed-same, written-owes, seven-owes}
+use Rattle.codebook_values.proofs.Answers.{early-owes, early-passed, Passed, rows-owe, written-owes, seven-owes}
 use Rattle.codebook_values.proofs.FourRows.{and-four, FourHanded, four-handed}
 use Rattle.codebook_values.proofs.values.lsf_values.Statement.{statement}
 use Rattle.codebook_values.proofs.values.lsf_values.Tie as tie
@@ -19,8 +19,8 @@ returns : tie.Need-returns
 unfolding lsfAnswer lsfWrites
 returns c =
     let a = c .before .before .args in
-    early-owes (a .set) (a .codebook .now) lsfSize (a .out .now) (lsfValues (a .codebook .now) (a .set)) (ofRows rowsFit (a .codebook .now) (indicesIn (a .set)))
-    (c .before .values-refusal .result) (c .before .values-refusal .ensures) (c .if1 .taken)
+    let v = c .before .values-refusal in
+    early-owes (a .set) (a .codebook .now) lsfSize (a .out .now) (v .result) (v .ensures) _ (ofRows rowsFit (a .codebook .now) (indicesIn (a .set))) (c .if1 .taken)
 
 indices-of-requires : tie.Need-indices-of-requires
 indices-of-requires c κs = search needs
@@ -29,7 +29,8 @@ indices-of-requires c κs = search needs
 past : (c : tie.Else1) → let a = c .before .before .args in Passed (a .set) (a .codebook .now) lsfSize (length (a .out .now))
 past c =
     let a = c .before .before .args in
-    passed (a .set) (a .codebook .now) lsfSize (length (a .out .now)) (c .before .values-refusal .result) (c .before .values-refusal .ensures) (c .if1 .left)
+    let v = c .before .values-refusal in
+    early-passed (a .set) (a .codebook .now) lsfSize (a .out .now) (v .result) (v .ensures) (c .if1 .left)
 
 lsf-row-requires : tie.Need-lsf-row-requires
 lsf-row-requires c κs = search needs
@@ -74,8 +75,8 @@ returns-2 c =
     let a = x .before .before .before .args in
     let k = a .codebook .now in
     let r = rows (t .before) in
-    rows-owe (a .set) k lsfSize (a .out .now) (lsfValues k (a .set)) (ofRows rowsFit k (indicesIn (a .set))) (past (x .before)) _ _
-    (owed-same (a .out .now) _ _ _ _ _ _ (r .fit) (λ f. r .are (t .if2 .taken) .0) (written-owes _ (a .out .now) _ (t .if2 .taken) _ (w .write-raised .ensures)))
+    rows-owe (a .set) k lsfSize (a .out .now) (past (x .before)) _ (ofRows rowsFit k (indicesIn (a .set))) _ _ _ _ (r .fit)
+    (λ f. r .are (t .if2 .taken) .0) (written-owes _ (a .out .now) _ (t .if2 .taken) _ (w .write-raised .ensures))
 
 returns-3 : tie.Need-returns-3
 unfolding lsfValues lsfAnswer lsfWrites
@@ -83,21 +84,11 @@ returns-3 c =
     let x = c .before .before .before .before .before in
     let a = x .before .before .before .args in
     let k = a .codebook .now in
-    rows-owe (a .set) k lsfSize (a .out .now) (lsfValues k (a .set)) (ofRows rowsFit k (indicesIn (a .set))) (past (x .before)) _ _
-    (seven-owes _ (a .out .now) _ (sym (rows (c .before) .fit) ∙ c .if2 .left))
+    rows-owe (a .set) k lsfSize (a .out .now) (past (x .before)) (lsfValues k (a .set)) (ofRows rowsFit k (indicesIn (a .set))) _ _ _ _ refl
+    (λ f. refl) (seven-owes _ (a .out .now) _ (sym (rows (c .before) .fit) ∙ c .if2 .left))
 
 pub lsf-values-spec : {M : Type 1} → statement M
 lsf-values-spec =
     tie.close
-    (tie.spec
-    values-refusal-requires
-    returns
-    indices-of-requires
-    lsf-row-requires
-    lsf-row-requires-2
-    lsf-row-requires-3
-    lsf-row-requires-4
-    write-raised-requires
-    same-length
-    returns-2
-    returns-3)
+    (tie.spec values-refusal-requires returns indices-of-requires lsf-row-requires lsf-row-requires-2 lsf-row-requires-3 lsf-row-requires-4
+    write-raised-requires same-length returns-2 returns-3)

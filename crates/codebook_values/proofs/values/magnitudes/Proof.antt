@@ -5,9 +5,9 @@ use native.Mathlib.Omega.{arith}
 use lib.ListN.{length}
 use borrow.Author.Needs.{needs}
 use Rattle.codebook.specs.Rows.{magnitudeSize}
-use Rattle.codebook.proofs.Handed.{magnitude-handed}
+use Rattle.codebook.proofs.Answers.{magnitude-row-handed}
 use Rattle.codebook_values.specs.Values.{magnitudes, magnitudesFit, magnitudesAnswer, magnitudesWrites}
-use Rattle.codebook_values.proofs.Owed.{early-owes, Passed, passed, rows-owe, owed-same}
+use Rattle.codebook_values.proofs.Answers.{early-owes, early-passed, Passed, rows-owe}
 use Rattle.codebook_values.proofs.values.magnitudes.Statement.{statement}
 use Rattle.codebook_values.proofs.values.magnitudes.Tie as tie
 
@@ -18,8 +18,8 @@ returns : tie.Need-returns
 unfolding magnitudesAnswer magnitudesWrites
 returns c =
     let a = c .before .before .args in
-    early-owes (a .set) (a .codebook .now) magnitudeSize (a .out .now) (magnitudes (a .codebook .now) (a .set)) (magnitudesFit (a .codebook .now) (a .set))
-    (c .before .values-refusal .result) (c .before .values-refusal .ensures) (c .if1 .taken)
+    let v = c .before .values-refusal in
+    early-owes (a .set) (a .codebook .now) magnitudeSize (a .out .now) (v .result) (v .ensures) _ (magnitudesFit (a .codebook .now) (a .set)) (c .if1 .taken)
 
 enum-known-set : tie.Need-enum-known-set
 enum-known-set c = search needs
@@ -34,7 +34,8 @@ slice-aggregate-write-row c = search needs
 past : (c : tie.Else1) → let a = c .before .before .args in Passed (a .set) (a .codebook .now) magnitudeSize (length (a .out .now))
 past c =
     let a = c .before .before .args in
-    passed (a .set) (a .codebook .now) magnitudeSize (length (a .out .now)) (c .before .values-refusal .result) (c .before .values-refusal .ensures) (c .if1 .left)
+    let v = c .before .values-refusal in
+    early-passed (a .set) (a .codebook .now) magnitudeSize (a .out .now) (v .result) (v .ensures) (c .if1 .left)
 
 write-row-requires : tie.Need-write-row-requires
 write-row-requires c κs = past (c .before .before .before .before) .long
@@ -51,8 +52,8 @@ returns-2 c =
     let a = e .before .before .args in
     let k = a .codebook .now in
     let told = sym (u .enum-told .given .1) in
-    rows-owe (a .set) k magnitudeSize (a .out .now) (magnitudes k (a .set)) (magnitudesFit k (a .set)) (past e) _ _
-    (owed-same (a .out .now) _ _ _ _ _ _ (ap (magnitudesFit k) told) (λ t. ap (magnitudes k) told) (w .write-row .ensures))
+    rows-owe (a .set) k magnitudeSize (a .out .now) (past e) _ (magnitudesFit k (a .set)) _ _ _ _ (ap (magnitudesFit k) told)
+    (λ t. ap (magnitudes k) told) (w .write-row .ensures)
 
 cast-magnitude-row : tie.Need-cast-magnitude-row
 cast-magnitude-row c = search needs
@@ -81,24 +82,12 @@ returns-3 c =
     let k = a .codebook .now in
     let told = sym (v .set .given .1) in
     let fit = ap (magnitudesFit k) told in
-    let h = magnitude-handed k (v .set .given .0 .1 .0 .fourier) _ (past e .whole) (index-lt r) (r .magnitude-row .ensures) in
-    rows-owe (a .set) k magnitudeSize (a .out .now) (magnitudes k (a .set)) (magnitudesFit k (a .set)) (past e) _ _
-    (owed-same (a .out .now) _ _ _ _ _ _ (h .ten ∙ fit) (λ t. h .whole (fit ∙ t) ∙ ap (magnitudes k) told) (w .write-row2 .ensures))
+    let h = magnitude-row-handed k (v .set .given .0 .1 .0 .fourier) _ (past e .whole) (index-lt r) (r .magnitude-row .ensures) in
+    rows-owe (a .set) k magnitudeSize (a .out .now) (past e) _ (magnitudesFit k (a .set)) _ _ _ _ (h .ten ∙ fit)
+    (λ t. h .whole (fit ∙ t) ∙ ap (magnitudes k) told) (w .write-row2 .ensures)
 
 pub magnitudes-spec : {M : Type 1} → statement M
 magnitudes-spec =
     tie.close
-    (tie.spec
-    values-refusal-requires
-    returns
-    enum-known-set
-    enum-told
-    slice-aggregate-write-row
-    write-row-requires
-    same-length
-    returns-2
-    cast-magnitude-row
-    magnitude-row-requires
-    write-row-requires-2
-    same-length-2
-    returns-3)
+    (tie.spec values-refusal-requires returns enum-known-set enum-told slice-aggregate-write-row write-row-requires same-length returns-2
+    cast-magnitude-row magnitude-row-requires write-row-requires-2 same-length-2 returns-3)

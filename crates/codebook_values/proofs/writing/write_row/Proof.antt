@@ -9,7 +9,7 @@ use borrow.Author.Needs.{needs}
 use borrow.Author.Tests.{eq-eqb, ne-eqb}
 use Rattle.bits.proofs.Front.{front-more, front-all}
 use Rattle.codebook_values.proofs.Sizes.{back}
-use Rattle.codebook_values.proofs.Owed.{written-owes, seven-owes}
+use Rattle.codebook_values.proofs.Answers.{written-owes, seven-owes}
 use Rattle.codebook_values.proofs.writing.write_row.Statement.{statement}
 use Rattle.codebook_values.proofs.writing.write_row.Tie as tie
 

@@ -13,11 +13,11 @@ use Rattle.codebook.specs.Rows.{lsfFits, allFit}
 use Rattle.codebook_values.specs.Values.{added, addedFour, larger, spacing, raised, rowsFit, lsfValues}
 use Rattle.codebook_values.specs.Spacing.{Spaced, sumFits, LsfSpacing}
 use Rattle.codebook_values.proofs.FourRows.{and-four}
-use Rattle.codebook_values.proofs.Sizes.{four-abs}
+use Rattle.codebook_values.proofs.Sizes.{four-abs-le}
 
 -- the larger of two is at least the second
-larger-least : (x least : ℤ) → least ≤ℤ larger x least
-larger-least x least = go (ltZ x least) refl
+larger-le : (x least : ℤ) → least ≤ℤ larger x least
+larger-le x least = go (ltZ x least) refl
   where
     go : (t : Bool) → ltZ x least ≡ t → least ≤ℤ cond t least x
     go true e = ≤ℤ-refl least
@@ -35,7 +35,7 @@ larger-kept x least h = go (ltZ x least) refl
 pub raised-spaced : (least : ℤ) (xs : List ℤ) → Spaced least (raised least xs)
 unfolding Spaced raised
 raised-spaced least [] = tt
-raised-spaced least (x ∷ xs) = (larger-least x least, raised-spaced (larger x least +ℤ spacing) xs)
+raised-spaced least (x ∷ xs) = (larger-le x least, raised-spaced (larger x least +ℤ spacing) xs)
 
 -- spaced values stay as they are
 pub spaced-kept : (least : ℤ) (xs : List ℤ) → Spaced least xs → raised least xs ≡ xs
@@ -56,21 +56,21 @@ sum-fits (pos n) h = le-leb n 16000000000 h
 sum-fits (negsuc n) h = rw (le-leb n 15999999999 (omega arith)) refl
 
 -- every sum of four rows within the limit
-pub sums-fit : (a b c d : List ℤ) → rowsFit a b c d ≡ true → allFit sumFits (addedFour a b c d) ≡ true
+pub sums-fits : (a b c d : List ℤ) → rowsFit a b c d ≡ true → allFit sumFits (addedFour a b c d) ≡ true
 unfolding allFit added
-sums-fit [] b c d h = refl
-sums-fit (w ∷ a) [] c d h = refl
-sums-fit (w ∷ a) (x ∷ b) [] d h = refl
-sums-fit (w ∷ a) (x ∷ b) (y ∷ c) [] h = refl
-sums-fit (w ∷ a) (x ∷ b) (y ∷ c) (z ∷ d) h =
+sums-fits [] b c d h = refl
+sums-fits (w ∷ a) [] c d h = refl
+sums-fits (w ∷ a) (x ∷ b) [] d h = refl
+sums-fits (w ∷ a) (x ∷ b) (y ∷ c) [] h = refl
+sums-fits (w ∷ a) (x ∷ b) (y ∷ c) (z ∷ d) h =
     let e = and-four (allFit lsfFits (w ∷ a)) (allFit lsfFits (x ∷ b)) (allFit lsfFits (y ∷ c)) (allFit lsfFits (z ∷ d)) h in
     let ew = and-eq-true-iff (lsfFits w) (allFit lsfFits a) .0 (e .0) in
     let ex = and-eq-true-iff (lsfFits x) (allFit lsfFits b) .0 (e .1) in
     let ey = and-eq-true-iff (lsfFits y) (allFit lsfFits c) .0 (e .2) in
     let ez = and-eq-true-iff (lsfFits z) (allFit lsfFits d) .0 (e .3) in
-    let here = sum-fits (w +ℤ x +ℤ y +ℤ z) (four-abs w x y z (ew .0) (ex .0) (ey .0) (ez .0)) in
-    rw (here, sums-fit a b c d (rw (ew .1, ex .1, ey .1, ez .1) refl)) refl
+    let here = sum-fits (w +ℤ x +ℤ y +ℤ z) (four-abs-le w x y z (ew .0) (ex .0) (ey .0) (ez .0)) in
+    rw (here, sums-fits a b c d (rw (ew .1, ex .1, ey .1, ez .1) refl)) refl
 
 -- all together
 pub lsf-spacing : LsfSpacing
-lsf-spacing = record { apart = lsf-spaced; kept = spaced-kept; bounded = sums-fit }
+lsf-spacing = record { apart = lsf-spaced; kept = spaced-kept; bounded = sums-fits }
