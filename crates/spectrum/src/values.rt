@@ -4,8 +4,7 @@ use codebook_values::ValuesAnswer;
 use receiver::ReceiveAnswer;
 use sets::ParameterSet;
 ghost use mathlib.Core.Path.{_≡_};
-ghost use Rattle.receiver.specs.Receiving.{firstRefusal};
-ghost use Rattle.spectrum.specs.Values.{refused, ofCodebooks, ofTexts, ofFrame, textNumber, valuesNumber};
+ghost use Rattle.spectrum.specs.Values.{refused, ofCodebooks, ofTexts, ofFrame, textNumber, valuesNumber, firstOf};
 
 // Values, or zeros where they are refused, and the number of the refusal, 0 is none.
 pub(crate) struct Spectrum {
@@ -73,7 +72,7 @@ fn refused(n: u8) -> Spectrum
 
 // Of two refusals the first that applies.
 fn first_refusal(a: u8, b: u8) -> u8
-    ensures { λ r. ⌜ r ≡ firstRefusal a b ⌝ }
+    ensures { λ r. ⌜ r ≡ firstOf a b ⌝ }
 {
     if a == 0 { b } else { a }
 }
