@@ -46,7 +46,7 @@ pub record Passed (set : ParameterSet) (codebook : List ℤ) (size room : ℕ) :
   pub long : 10 ≤ room
   pub range : inRange set ≡ true
   pub whole : length codebook ≡ size
-  pub rest : (fit : Bool) → firstRefusal (earlyTable set codebook size room ++ rowsTable fit) ≡ rowsRefusal fit
+  pub rest : (fit : Bool) → firstRefusal (earlyTable (inRange set) (length codebook) size room ++ rowsTable fit) ≡ rowsRefusal fit
 
 -- values written, where all entries fit
 pub written-owes : (values out : List ℤ) (fit : Bool) → fit ≡ true → (after : List ℤ) → after ≡ values ++ drop 10 out
@@ -67,17 +67,21 @@ rows-ext out r after fit false values values′ f v o =
     (o .0 ∙ ap (λ (t : Bool). valuesUnless (rowsRefusal t)) f, o .1 ∙ ap (λ (t : Bool). writtenUnless (rowsRefusal t) 10 values out) f)
 
 -- a call, by the number n of what is refused before any row is looked at
-module _ (set : ParameterSet) (codebook : List ℤ) (size : ℕ) (out : List ℤ) (n : ℕ)
-    (e : n ≡ firstRefusal (earlyTable set codebook size (length out))) where
+module _ (set : ParameterSet) (codebook : List ℤ) (size : ℕ) (out : List ℤ) (t : Bool) (n : ℕ)
+    (q : t ≡ inRange set) (e : n ≡ firstRefusal (earlyTable t (length codebook) size (length out))) where
+  -- by the set itself
+  early-is : n ≡ firstRefusal (earlyTable (inRange set) (length codebook) size (length out))
+  early-is = e ∙ ap (λ (b : Bool). firstRefusal (earlyTable b (length codebook) size (length out))) q
+
   -- refused so
   pub early-owes : (values : List ℤ) (fit : Bool) → (n ≡ 0 → ⊥)
-      → Owed (firstRefusal (earlyTable set codebook size (length out) ++ rowsTable fit)) values out (Refused n) out
-  early-owes values fit h = refused-owes n _ values out h (append-refused (earlyTable set codebook size (length out)) (rowsTable fit) n e h)
+      → Owed (firstRefusal (earlyTable (inRange set) (length codebook) size (length out) ++ rowsTable fit)) values out (Refused n) out
+  early-owes values fit h = refused-owes n _ values out h (append-refused (earlyTable (inRange set) (length codebook) size (length out)) (rowsTable fit) n early-is h)
 
   -- not refused so
   pub early-passed : n ≡ 0 → Passed set codebook size (length out)
   early-passed z =
-      let p = early-only (ltb (length out) 10) (inRange set) (eqb (length codebook) size) (sym e ∙ z) in
+      let p = early-only (ltb (length out) 10) (inRange set) (eqb (length codebook) size) (sym early-is ∙ z) in
       record {
         long = ltb-false (length out) 10 (p .0);
         range = p .1;
@@ -89,7 +93,7 @@ module _ (set : ParameterSet) (codebook : List ℤ) (size : ℕ) (out : List ℤ
 pub rows-owe : (set : ParameterSet) (codebook : List ℤ) (size : ℕ) (out : List ℤ) → Passed set codebook size (length out)
     → (values : List ℤ) (fit : Bool) (r : ValuesAnswer) (after : List ℤ) (values′ : List ℤ) (fit′ : Bool)
     → fit′ ≡ fit → (fit ≡ true → values′ ≡ values) → Owed (rowsRefusal fit′) values′ out r after
-    → Owed (firstRefusal (earlyTable set codebook size (length out) ++ rowsTable fit)) values out r after
+    → Owed (firstRefusal (earlyTable (inRange set) (length codebook) size (length out) ++ rowsTable fit)) values out r after
 rows-owe set codebook size out p values fit r after values′ fit′ f v o =
     let m = sym (p .rest fit) in
     let q = rows-ext out r after fit′ fit values′ values f v o in

@@ -27,7 +27,7 @@ pub fn lsf_values(set: ParameterSet, codebook: &[i64], out: &mut [i64]) -> Value
     ensures answer { λ r. ⌜ r ≡ lsfAnswer set (now (codebook .entry)) (length (now (out .entry))) ⌝ }
     ensures written { λ _. ⌜ now (out .exit) ≡ lsfWrites set (now (codebook .entry)) (now (out .entry)) ⌝ }
 {
-    let refusal = values_refusal(set, codebook, LSF_SIZE, out.len());
+    let refusal = values_refusal(is_in_range(set), codebook.len(), LSF_SIZE, out.len());
     if refusal != 0 {
         return ValuesAnswer::Refused(refusal);
     }
@@ -48,7 +48,7 @@ pub fn magnitudes(set: ParameterSet, codebook: &[i64], out: &mut [i64]) -> Value
     ensures answer { λ r. ⌜ r ≡ magnitudesAnswer set (now (codebook .entry)) (length (now (out .entry))) ⌝ }
     ensures written { λ _. ⌜ now (out .exit) ≡ magnitudesWrites set (now (codebook .entry)) (now (out .entry)) ⌝ }
 {
-    let refusal = values_refusal(set, codebook, MAGNITUDE_SIZE, out.len());
+    let refusal = values_refusal(is_in_range(set), codebook.len(), MAGNITUDE_SIZE, out.len());
     if refusal != 0 {
         return ValuesAnswer::Refused(refusal);
     }
@@ -59,17 +59,18 @@ pub fn magnitudes(set: ParameterSet, codebook: &[i64], out: &mut [i64]) -> Value
     write_row(magnitude_row(codebook, v.fourier as u16), out)
 }
 
-// What is refused before any row is looked at, for a codebook of `size` numbers and an output of `room` numbers.
-fn values_refusal(set: ParameterSet, codebook: &[i64], size: usize, room: usize) -> u8
-    ensures { λ r. ⌜ r ≡ firstRefusal (earlyTable set (now (codebook .entry)) size room) ⌝ }
+// What is refused before any row is looked at: for a set in range or not, for the numbers of a codebook that is to have
+// `size` of them, and for the room of an output.
+fn values_refusal(ranged: bool, numbers: usize, size: usize, room: usize) -> u8
+    ensures { λ r. ⌜ r ≡ firstRefusal (earlyTable ranged numbers size room) ⌝ }
 {
     if room < 10 {
         return 1;
     }
-    if !is_in_range(set) {
+    if !ranged {
         return 5;
     }
-    if codebook.len() != size {
+    if numbers != size {
         return 6;
     }
     0

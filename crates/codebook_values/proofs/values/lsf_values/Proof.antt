@@ -12,25 +12,30 @@ use Rattle.codebook_values.proofs.FourRows.{and-four, FourHanded, four-
 use Rattle.codebook_values.proofs.values.lsf_values.Statement.{statement}
 use Rattle.codebook_values.proofs.values.lsf_values.Tie as tie
 
+is-in-range-requires : tie.Need-is-in-range-requires
+is-in-range-requires c κs = search needs
+
 values-refusal-requires : tie.Need-values-refusal-requires
 values-refusal-requires c κs = search needs
 
 returns : tie.Need-returns
 unfolding lsfAnswer lsfWrites
 returns c =
-    let a = c .before .before .args in
+    let r = c .before .before in
     let v = c .before .values-refusal in
-    early-owes (a .set) (a .codebook .now) lsfSize (a .out .now) (v .result) (v .ensures) _ (ofRows rowsFit (a .codebook .now) (indicesIn (a .set))) (c .if1 .taken)
+    let a = r .before .args in
+    early-owes (a .set) (a .codebook .now) lsfSize (a .out .now) (r .is-in-range .result) (v .result) (r .is-in-range .ensures) (v .ensures) _ (ofRows rowsFit (a .codebook .now) (indicesIn (a .set))) (c .if1 .taken)
 
 indices-of-requires : tie.Need-indices-of-requires
 indices-of-requires c κs = search needs
 
 -- what is known past the first tests
-past : (c : tie.Else1) → let a = c .before .before .args in Passed (a .set) (a .codebook .now) lsfSize (length (a .out .now))
+past : (c : tie.Else1) → let a = c .before .before .before .args in Passed (a .set) (a .codebook .now) lsfSize (length (a .out .now))
 past c =
-    let a = c .before .before .args in
+    let r = c .before .before in
     let v = c .before .values-refusal in
-    early-passed (a .set) (a .codebook .now) lsfSize (a .out .now) (v .result) (v .ensures) (c .if1 .left)
+    let a = r .before .args in
+    early-passed (a .set) (a .codebook .now) lsfSize (a .out .now) (r .is-in-range .result) (v .result) (r .is-in-range .ensures) (v .ensures) (c .if1 .left)
 
 lsf-row-requires : tie.Need-lsf-row-requires
 lsf-row-requires c κs = search needs
@@ -47,7 +52,7 @@ lsf-row-requires-4 c κs = search needs
 -- the four rows
 rows : (c : tie.After-lsf-row4) →
     let b = c .before .before in
-    let a = b .before .before .before .before .before .args in
+    let a = b .before .before .before .before .before .before .args in
     FourHanded (a .codebook .now) (a .set) (b .before .lsf-row .result .now) (b .lsf-row2 .result .now) (c .before .lsf-row3 .result .now) (c .lsf-row4 .result .now)
 rows c =
     let b = c .before .before in
@@ -72,7 +77,7 @@ returns-2 c =
     let w = c .before in
     let t = w .before .before in
     let x = t .before .before .before .before .before in
-    let a = x .before .before .before .args in
+    let a = x .before .before .before .before .args in
     let k = a .codebook .now in
     let r = rows (t .before) in
     rows-owe (a .set) k lsfSize (a .out .now) (past (x .before)) _ (ofRows rowsFit k (indicesIn (a .set))) _ _ _ _ (r .fit)
@@ -82,7 +87,7 @@ returns-3 : tie.Need-returns-3
 unfolding lsfValues lsfAnswer lsfWrites
 returns-3 c =
     let x = c .before .before .before .before .before in
-    let a = x .before .before .before .args in
+    let a = x .before .before .before .before .args in
     let k = a .codebook .now in
     rows-owe (a .set) k lsfSize (a .out .now) (past (x .before)) (lsfValues k (a .set)) (ofRows rowsFit k (indicesIn (a .set))) _ _ _ _ refl
     (λ f. refl) (seven-owes _ (a .out .now) _ (sym (rows (c .before) .fit) ∙ c .if2 .left))
@@ -90,5 +95,5 @@ returns-3 c =
 pub lsf-values-spec : {M : Type 1} → statement M
 lsf-values-spec =
     tie.close
-    (tie.spec values-refusal-requires returns indices-of-requires lsf-row-requires lsf-row-requires-2 lsf-row-requires-3 lsf-row-requires-4
+    (tie.spec is-in-range-requires values-refusal-requires returns indices-of-requires lsf-row-requires lsf-row-requires-2 lsf-row-requires-3 lsf-row-requires-4
     write-raised-requires same-length returns-2 returns-3)

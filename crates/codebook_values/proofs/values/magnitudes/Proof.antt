@@ -11,15 +11,19 @@ use Rattle.codebook_values.proofs.Answers.{early-owes, early-passed, Pa
 use Rattle.codebook_values.proofs.values.magnitudes.Statement.{statement}
 use Rattle.codebook_values.proofs.values.magnitudes.Tie as tie
 
+is-in-range-requires : tie.Need-is-in-range-requires
+is-in-range-requires c κs = search needs
+
 values-refusal-requires : tie.Need-values-refusal-requires
 values-refusal-requires c κs = search needs
 
 returns : tie.Need-returns
 unfolding magnitudesAnswer magnitudesWrites
 returns c =
-    let a = c .before .before .args in
+    let r = c .before .before in
     let v = c .before .values-refusal in
-    early-owes (a .set) (a .codebook .now) magnitudeSize (a .out .now) (v .result) (v .ensures) _ (magnitudesFit (a .codebook .now) (a .set)) (c .if1 .taken)
+    let a = r .before .args in
+    early-owes (a .set) (a .codebook .now) magnitudeSize (a .out .now) (r .is-in-range .result) (v .result) (r .is-in-range .ensures) (v .ensures) _ (magnitudesFit (a .codebook .now) (a .set)) (c .if1 .taken)
 
 enum-known-set : tie.Need-enum-known-set
 enum-known-set c = search needs
@@ -31,11 +35,12 @@ slice-aggregate-write-row : tie.Need-slice-aggregate-write-row
 slice-aggregate-write-row c = search needs
 
 -- what is known past the first tests
-past : (c : tie.Else1) → let a = c .before .before .args in Passed (a .set) (a .codebook .now) magnitudeSize (length (a .out .now))
+past : (c : tie.Else1) → let a = c .before .before .before .args in Passed (a .set) (a .codebook .now) magnitudeSize (length (a .out .now))
 past c =
-    let a = c .before .before .args in
+    let r = c .before .before in
     let v = c .before .values-refusal in
-    early-passed (a .set) (a .codebook .now) magnitudeSize (a .out .now) (v .result) (v .ensures) (c .if1 .left)
+    let a = r .before .args in
+    early-passed (a .set) (a .codebook .now) magnitudeSize (a .out .now) (r .is-in-range .result) (v .result) (r .is-in-range .ensures) (v .ensures) (c .if1 .left)
 
 write-row-requires : tie.Need-write-row-requires
 write-row-requires c κs = past (c .before .before .before .before) .long
@@ -49,7 +54,7 @@ returns-2 c =
     let w = c .before in
     let u = w .before .before .before in
     let e = u .before .before in
-    let a = e .before .before .args in
+    let a = e .before .before .before .args in
     let k = a .codebook .now in
     let told = sym (u .enum-told .given .1) in
     rows-owe (a .set) k magnitudeSize (a .out .now) (past e) _ (magnitudesFit k (a .set)) _ _ _ _ (ap (magnitudesFit k) told)
@@ -78,7 +83,7 @@ returns-3 c =
     let r = w .before .before in
     let v = r .before .before .before in
     let e = v .before .before in
-    let a = e .before .before .args in
+    let a = e .before .before .before .args in
     let k = a .codebook .now in
     let told = sym (v .set .given .1) in
     let fit = ap (magnitudesFit k) told in
@@ -89,5 +94,5 @@ returns-3 c =
 pub magnitudes-spec : {M : Type 1} → statement M
 magnitudes-spec =
     tie.close
-    (tie.spec values-refusal-requires returns enum-known-set enum-told slice-aggregate-write-row write-row-requires same-length returns-2
+    (tie.spec is-in-range-requires values-refusal-requires returns enum-known-set enum-told slice-aggregate-write-row write-row-requires same-length returns-2
     cast-magnitude-row magnitude-row-requires write-row-requires-2 same-length-2 returns-3)

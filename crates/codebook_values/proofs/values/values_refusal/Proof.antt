@@ -1,6 +1,4 @@
 -- `codebook_values::values::values_refusal` meets its contract: each number goes by the tests before it. Assumes nothing.
-use mathlib.Core.Path.{sym, _∙_}
-use borrow.Author.Needs.{needs}
 use borrow.Author.Tests.{lt-ltb, le-ltb, eq-eqb, ne-eqb, not-true, not-false}
 use Rattle.codebook_values.proofs.values.values_refusal.Statement.{statement}
 use Rattle.codebook_values.proofs.values.values_refusal.Tie as tie
@@ -8,23 +6,18 @@ use Rattle.codebook_values.proofs.values.values_refusal.Tie as tie
 returns : tie.Need-returns
 returns c = simp (lt-ltb (c .before .args .room) 10 (c .if1 .taken))
 
-is-in-range-requires : tie.Need-is-in-range-requires
-is-in-range-requires c κs = search needs
-
 returns-2 : tie.Need-returns-2
-returns-2 c =
-    let r = c .before in
-    simp (le-ltb _ _ (r .before .if1 .left), sym (r .is-in-range .ensures) ∙ not-true _ (c .if2 .taken))
+returns-2 c = simp (le-ltb _ _ (c .before .if1 .left), not-true (c .before .before .args .ranged) (c .if2 .taken))
 
 returns-3 : tie.Need-returns-3
 returns-3 c =
-    let r = c .before .before in
-    simp (le-ltb _ _ (r .before .if1 .left), sym (r .is-in-range .ensures) ∙ not-false _ (c .before .if2 .left), ne-eqb _ _ (c .if3 .taken))
+    let first = c .before .before in
+    simp (le-ltb _ _ (first .if1 .left), not-false (first .before .args .ranged) (c .before .if2 .left), ne-eqb _ _ (c .if3 .taken))
 
 returns-4 : tie.Need-returns-4
 returns-4 c =
-    let r = c .before .before in
-    simp (le-ltb _ _ (r .before .if1 .left), sym (r .is-in-range .ensures) ∙ not-false _ (c .before .if2 .left), eq-eqb _ _ (c .if3 .left))
+    let first = c .before .before in
+    simp (le-ltb _ _ (first .if1 .left), not-false (first .before .args .ranged) (c .before .if2 .left), eq-eqb _ _ (c .if3 .left))
 
 pub values-refusal-spec : {M : Type 1} → statement M
-values-refusal-spec = tie.close (tie.spec returns is-in-range-requires returns-2 returns-3 returns-4)
+values-refusal-spec = tie.close (tie.spec returns returns-2 returns-3 returns-4)
