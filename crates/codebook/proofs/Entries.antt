@@ -21,9 +21,9 @@ module _ (fits : ℤ → Bool) (row : List ℤ) where
       cc (and-assoc fit r (allFit fits (drop (i + 1) row)))
 
   -- all are tested
-  pub fit-end : (fit : Bool) (i : ℕ) → length row ≤ i → fit && allFit fits (drop i row) ≡ allFit fits row → fit ≡ allFit fits row
+  pub fit-is : (fit : Bool) (i : ℕ) → length row ≤ i → fit && allFit fits (drop i row) ≡ allFit fits row → fit ≡ allFit fits row
   unfolding allFit
-  fit-end fit i h inv = cc (drop-of-length-le row h, and-true fit)
+  fit-is fit i h inv = cc (drop-of-length-le row h, and-true fit)
 
 -- an entry of a row that fits
 pub fit-at : (fits : ℤ → Bool) (row : List ℤ) (i : ℕ) → i < length row → allFit fits row ≡ true → fits (getD row i (pos 0)) ≡ true

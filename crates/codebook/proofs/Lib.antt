@@ -1,5 +1,5 @@
 pub mod StageRows
 pub mod Entries
 pub mod Refusals
-pub mod Handed
+pub mod Answers
 pub mod Examples

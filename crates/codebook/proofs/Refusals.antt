@@ -6,14 +6,16 @@ use mathlib.Core.List.{List, []}
 use Prim.Native.Nat.{ℕ, zero, suc}
 use native.Mathlib.Omega.{arith}
 use lib.IntN.{ℤ}
-use Rattle.codebook.specs.Rows.{refusal, rowUnless}
+use Rattle.bits.specs.Refusals.{firstRefusal}
+use Rattle.codebook.specs.Rows.{rowUnless}
+use Rattle.codebook.specs.RowNumbers.{rowTable}
 
--- where nothing is refused, every test is passed
-pub refusal-none : (inRange whole fit : Bool) → refusal inRange whole fit ≡ 0 → (inRange ≡ true) × (whole ≡ true) × (fit ≡ true)
-refusal-none true true true e = (refl, refl, refl)
-refusal-none true true false e = absurd (omega arith)
-refusal-none true false fit e = absurd (omega arith)
-refusal-none false whole fit e = absurd (omega arith)
+-- where nothing is refused the row is there, the codebook is whole, and the entries fit
+pub row-taken-only : (there whole fit : Bool) → firstRefusal (rowTable there whole fit) ≡ 0 → (there ≡ true) × (whole ≡ true) × (fit ≡ true)
+row-taken-only true true true e = (refl, refl, refl)
+row-taken-only true true false e = absurd (omega arith)
+row-taken-only true false fit e = absurd (omega arith)
+row-taken-only false whole fit e = absurd (omega arith)
 
 -- a refused row has no numbers
 pub row-refused : (n : ℕ) (row : List ℤ) → (n ≡ 0 → ⊥) → rowUnless n row ≡ []

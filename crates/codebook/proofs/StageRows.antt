@@ -1,6 +1,6 @@
 -- Where the stages of the LSF codebook begin, and that the rows of all four end with row 319.
 -- Assumes nothing.
-use mathlib.Core.Path.{_≡_, refl, ap}
+use mathlib.Core.Path.{_≡_, refl, ap, _∙_}
 use mathlib.Core.Bool.{Bool, true, false, cond}
 use Prim.Native.Nat.{ℕ, zero, suc, _+_, _<_}
 use native.Mathlib.Omega.{arith}
@@ -10,8 +10,8 @@ use Rattle.codebook.specs.Rows.{stageRows, stageStart}
 use Rattle.codebook.specs.RowNumbers.{lsfRowNumber}
 
 -- there is no stage past the fourth
-rows-past : (n : ℕ) → stageRows (suc (suc (suc (suc (suc n))))) ≡ 0
-rows-past n =
+rows-none : (n : ℕ) → stageRows (suc (suc (suc (suc (suc n))))) ≡ 0
+rows-none n =
     let stage = suc (suc (suc (suc (suc n)))) in
     rw (ne-eqb stage 1 (λ e. omega arith), le-leb 2 stage (omega arith), lt-leb stage 4 (omega arith)) refl
 
@@ -26,7 +26,7 @@ start-first (suc (suc n)) h = absurd (omega arith)
 start-beyond : (n : ℕ) → stageStart (suc (suc (suc (suc (suc n))))) ≡ 320
 unfolding stageStart
 start-beyond zero = refl
-start-beyond (suc n) = omega (arith, start-beyond n, rows-past n)
+start-beyond (suc n) = omega (arith, start-beyond n, rows-none n)
 
 -- past the four stages all rows stand before
 pub start-past : (stage : ℕ) → 4 < stage → stageStart stage ≡ 320
@@ -45,12 +45,12 @@ row-lt (suc zero) index h = omega arith
 row-lt (suc (suc zero)) index h = omega arith
 row-lt (suc (suc (suc zero))) index h = omega arith
 row-lt (suc (suc (suc (suc zero)))) index h = omega arith
-row-lt (suc (suc (suc (suc (suc n))))) index h = absurd (omega (arith, rows-past n))
+row-lt (suc (suc (suc (suc (suc n))))) index h = absurd (omega (arith, rows-none n))
 
 -- what tests whether a row is there and looks only at one that is: by the row's number, or by its stage and index
-pub by-number : {X : Type 0} (f : Bool → ℕ → X) → ((j k : ℕ) → f false j ≡ f false k) → (stage index : ℕ)
-    → f (ltb (lsfRowNumber stage index) 320) (lsfRowNumber stage index) ≡ f (ltb index (stageRows stage)) (stageStart stage + index)
-by-number f h stage index = go (ltb index (stageRows stage)) refl
+pub row-number-is : {X : Type 0} (f : Bool → ℕ → X) → ((j k : ℕ) → f false j ≡ f false k) → (stage index n : ℕ) → n ≡ lsfRowNumber stage index
+    → (r : X) → r ≡ f (ltb n 320) n → r ≡ f (ltb index (stageRows stage)) (stageStart stage + index)
+row-number-is f h stage index n e r p = p ∙ ap (λ (m : ℕ). f (ltb m 320) m) e ∙ go (ltb index (stageRows stage)) refl
   where
     k : ℕ
     k = stageStart stage + index

@@ -1,12 +1,13 @@
 -- Document 01, "LSF and magnitude values": the rows of a codebook (document 01's book). The LSF codebook is that of MIL-STD-3005, 5.3.4 and
 -- tables IV to VII, the codebook of magnitudes that of 5.3.5 and table VIII. Numbers are in millionths, of a hertz for LSF.
 use Prim.Native.Nat.{ℕ, zero, suc, _+_, _*_}
-use mathlib.Core.Bool.{Bool, true, _&&_, cond}
+use mathlib.Core.Bool.{Bool, true, not, _&&_, cond}
 use mathlib.Core.List.{List, [], _∷_}
 use lib.Dec.{leb, ltb, eqb}
 use lib.ListN.{length, take, drop}
 use lib.IntN.{ℤ, pos, negℤ}
 use lib.Signed.{leZ}
+use Rattle.bits.specs.Refusals.{firstRefusal}
 
 -- how many numbers the LSF codebook has: the 320 rows of its four stages (5.3.4), ten in a row
 abbrev pub lsfSize : ℕ
@@ -54,19 +55,24 @@ unfoldable pub allFit : (ℤ → Bool) → List ℤ → Bool
 allFit fits [] = true
 allFit fits (z ∷ zs) = fits z && allFit fits zs
 
--- the refusal ("Refusals by place"), 0 is none: 5 unless the parameter is in range, then 6 unless the codebook is whole, then 7 unless the entries in use fit
-abbrev pub refusal : Bool → Bool → Bool → ℕ
-refusal inRange whole fit = cond inRange (cond whole (cond fit 0 7) 6) 5
-
--- the refusal of a row of a stage: an index past the rows of its stage is out of range, and so is any index of another stage
+-- the refusal of a row of a stage ("Refusals by place"), 0 is none: 5, an index past the rows of its stage, and any index of another stage;
+-- 6, a codebook of another length; 7, an entry of the row beyond its limit
 abbrev pub lsfRowRefusal : List ℤ → ℕ → ℕ → ℕ
 lsfRowRefusal codebook stage index =
-    refusal (ltb index (stageRows stage)) (eqb (length codebook) lsfSize) (allFit lsfFits (lsfRow codebook stage index))
+    firstRefusal (
+    (not (ltb index (stageRows stage)), 5)
+    ∷ (not (eqb (length codebook) lsfSize), 6)
+    ∷ (not (allFit lsfFits (lsfRow codebook stage index)), 7)
+    ∷ [])
 
--- the refusal of a row of magnitudes
+-- the refusal of a row of magnitudes, likewise
 abbrev pub magnitudeRowRefusal : List ℤ → ℕ → ℕ
 magnitudeRowRefusal codebook index =
-    refusal (ltb index 256) (eqb (length codebook) magnitudeSize) (allFit magnitudeFits (magnitudeRow codebook index))
+    firstRefusal (
+    (not (ltb index 256), 5)
+    ∷ (not (eqb (length codebook) magnitudeSize), 6)
+    ∷ (not (allFit magnitudeFits (magnitudeRow codebook index)), 7)
+    ∷ [])
 
 -- what is handed out: the row, or a part of no numbers where it is refused
 abbrev pub rowUnless : ℕ → List ℤ → List ℤ

@@ -73,7 +73,8 @@ fn row_or_none(codebook: &[i64], rows: u16, k: u16, least: i64, most: i64) -> &[
 // Row k of a codebook.
 fn row_at(codebook: &[i64], k: u16) -> &[i64]
     requires { ⌜ 10 * k + 10 ≤ length (now codebook) ⌝ }
-    ensures { λ r. ⌜ (now r ≡ rowAt (now (codebook .entry)) k) × (length (now r) ≡ 10) ⌝ }
+    ensures equal { λ r. ⌜ now r ≡ rowAt (now (codebook .entry)) k ⌝ }
+    ensures size { λ r. ⌜ length (now r) ≡ 10 ⌝ }
 {
     let at = 10 * (k as usize);
     &codebook[at..at + 10]

@@ -32,7 +32,8 @@ fn stage_rows(stage: u8) -> u8
 
 // How many rows stand before a stage.
 fn stage_start(stage: u8) -> u16
-    ensures { λ r. ⌜ (r ≡ stageStart stage) × (r ≤ 320) ⌝ }
+    ensures equal { λ r. ⌜ r ≡ stageStart stage ⌝ }
+    ensures bound { λ r. ⌜ r ≤ 320 ⌝ }
 {
     match stage {
         0 | 1 => 0,

@@ -41,14 +41,14 @@ digit-at (c ∷ cs) (suc i) e h = digit-at cs i (both (isDigit c) (allDigits cs)
 
 module _ (cs : List ℕ) (i : ℕ) (h : i < length cs) where
   -- a test of the bytes from i on is a test of the one at i and of those after it
-  pub digits-step : allDigits (drop i cs) ≡ isDigit (getD cs i 0) && allDigits (drop (i + 1) cs)
+  pub digits-more : allDigits (drop i cs) ≡ isDigit (getD cs i 0) && allDigits (drop (i + 1) cs)
   unfolding allDigits
-  digits-step = rw (add-one, drop-cons cs i 0 h) refl
+  digits-more = rw (add-one, drop-cons cs i 0 h) refl
 
   -- one digit more
-  pub value-step : (v : ℕ) → valueAfter v (drop i cs) ≡ valueAfter (10 * v + (getD cs i 0 - 48)) (drop (i + 1) cs)
+  pub value-more : (v : ℕ) → valueAfter v (drop i cs) ≡ valueAfter (10 * v + (getD cs i 0 - 48)) (drop (i + 1) cs)
   unfolding valueAfter
-  value-step v = rw (add-one, drop-cons cs i 0 h) refl
+  value-more v = rw (add-one, drop-cons cs i 0 h) refl
 
 -- where no byte is left, nothing but digits is left
 pub digits-out : (cs : List ℕ) (i : ℕ) → length cs ≤ i → allDigits (drop i cs) ≡ true
@@ -78,10 +78,10 @@ unfolding isNumber
 number-digits line e = both (isDigits (unsigned line)) (not (isNegative line && eqb (digitsValue (unsigned line)) 0)) e .0
 
 -- the test of a line with such digits is that of its sign
-pub number-test : (line : List ℕ) (minus : Bool) (m : ℕ) → isDigits (unsigned line) ≡ true → minus ≡ isNegative line
+pub number-is : (line : List ℕ) (minus : Bool) (m : ℕ) → isDigits (unsigned line) ≡ true → minus ≡ isNegative line
     → m ≡ digitsValue (unsigned line) → not (minus && eqb m 0) ≡ isNumber line
 unfolding isNumber
-number-test line minus m e f g = rw (e, f, g) refl
+number-is line minus m e f g = rw (e, f, g) refl
 
 -- a line without such digits is bad
 pub number-none : (line : List ℕ) → isDigits (unsigned line) ≡ false → isNumber line ≡ false

@@ -9,6 +9,7 @@ use lib.Dec.{leb, eqb}
 use lib.ListN.{length, drop}
 use lib.IntN.{ℤ, pos, negℤ}
 use Rattle.bits.specs.Lists.{writtenUnless}
+use Rattle.bits.specs.Refusals.{Table, firstRefusal}
 use Rattle.codebook_text.specs.declared.TextAnswer.{TextAnswer}
 use Rattle.codebook_text.specs.declared.TextAnswer.the-variants.{Filled, Refused}
 
@@ -90,9 +91,13 @@ numbers (suc n) text = numberOf (lineOf text) ∷ numbers n (afterLine text)
 abbrev pub Reads : ℕ → List ℕ → List ℤ → Type 0
 Reads n text vs = (isLines n text ≡ true) × (numbers n text ≡ vs)
 
--- the refusal of a text for a codebook of that size: 6 where the buffer has another size or the text is not as many good lines
+-- what refuses a text for a codebook of that size ("Refusals by place"): 6, a buffer of another size; 6, a text that is not as many good lines
+abbrev pub textTable : ℕ → List ℕ → ℕ → Table
+textTable size text room = (not (eqb room size), 6) ∷ (not (isLines size text), 6) ∷ []
+
+-- the refusal, 0 is none
 unfoldable pub textRefusal : ℕ → List ℕ → ℕ → ℕ
-textRefusal size text room = cond (eqb room size && isLines size text) 0 6
+textRefusal size text room = firstRefusal (textTable size text room)
 
 -- the answer by the refusal, 0 for none
 abbrev pub filledUnless : ℕ → TextAnswer

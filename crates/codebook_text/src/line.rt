@@ -70,7 +70,8 @@ fn is_digit(c: u8) -> bool
 // The value of one to ten digits, the most significant first.
 fn digits_value(digits: &[u8]) -> u64
     requires { ⌜ isDigits (now digits) ≡ true ⌝ }
-    ensures { λ r. ⌜ (r ≡ digitsValue (now (digits .entry))) × (r < 10000000000) ⌝ }
+    ensures equal { λ r. ⌜ r ≡ digitsValue (now (digits .entry)) ⌝ }
+    ensures bound { λ r. ⌜ r < 10000000000 ⌝ }
 {
     let mut value: u64 = 0;
     for i in 0..digits.len() {

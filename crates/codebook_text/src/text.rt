@@ -74,7 +74,8 @@ fn fill(text: &[u8], codebook: &mut [i64])
 // The index of the first line end from `at` on, the text's length where there is none.
 fn line_end(text: &[u8], at: usize) -> usize
     requires { ⌜ at ≤ length (now text) ⌝ }
-    ensures { λ r. ⌜ (r ≡ at + length (lineOf (drop at (now (text .entry))))) × (r ≤ length (now (text .entry))) ⌝ }
+    ensures equal { λ r. ⌜ r ≡ at + length (lineOf (drop at (now (text .entry)))) ⌝ }
+    ensures bound { λ r. ⌜ r ≤ length (now (text .entry)) ⌝ }
 {
     let mut i = at;
     while i < text.len() {

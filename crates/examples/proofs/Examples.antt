@@ -13,7 +13,7 @@ use Rattle.records.specs.Records.{fresh}
 use Rattle.receiver.specs.Steps.{accepted, repeated}
 use Rattle.receiver.specs.Receiving.{receive}
 use Rattle.codebook.specs.Rows.{stageStart, allFit}
-use Rattle.spectra.specs.Values.{added, raised, lsfValues, lsfAnswer, lsfWrites}
+use Rattle.codebook_values.specs.Values.{added, raised, lsfValues, lsfAnswer, lsfWrites}
 use Rattle.examples.specs.Examples.{Examples}
 use Rattle.examples.proofs.Mute.{mutes}
 

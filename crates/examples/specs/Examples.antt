@@ -28,8 +28,8 @@ use Rattle.receiver.specs.Receiving.{receive}
 use Rattle.receiver.specs.declared.FrameResult.{FrameResult}
 use Rattle.receiver.specs.declared.Kind.the-variants as kind
 use Rattle.receiver.specs.declared.ReceiveAnswer.the-variants.{Result}
-use Rattle.spectra.specs.Values.{lsfAnswer, lsfWrites}
-use Rattle.spectra.specs.declared.ValuesAnswer.the-variants.{Written}
+use Rattle.codebook_values.specs.Values.{lsfAnswer, lsfWrites}
+use Rattle.codebook_values.specs.declared.ValuesAnswer.the-variants.{Written}
 use Rattle.calls.specs.Model.{Answer, done, refused, outcomes, receiveModel, receiveKind}
 use Rattle.bits.specs.Lists.{Every}
 

@@ -1,5 +1,5 @@
 pub mod Refusals
-pub mod Owed
+pub mod Answers
 pub mod Printed
 pub mod LongFiles
-pub mod Enough
+pub mod Inputs

@@ -1,21 +1,24 @@
 -- Document 01, "LSF and magnitude values": what the program finds for a frame and the texts of two codebooks. A refusal of the frame comes
 -- first, then one of a text, then one of a row.
 use Prim.Native.Nat.{ℕ, zero, suc}
-use mathlib.Core.List.{List}
+use mathlib.Core.Bool.{not}
+use mathlib.Core.List.{List, [], _∷_, _++_}
+use lib.Dec.{eqb}
 use lib.ListN.{replicate}
 use lib.IntN.{ℤ, pos}
+use Rattle.bits.specs.Refusals.{firstRefusal}
 use Rattle.order.specs.Order.{defaultOrder}
 use Rattle.sets.specs.declared.ParameterSet.{ParameterSet}
 use Rattle.records.specs.Records.{fresh}
-use Rattle.receiver.specs.Receiving.{receive, firstRefusal}
+use Rattle.receiver.specs.Receiving.{receive}
 use Rattle.receiver.specs.declared.ReceiveAnswer.{ReceiveAnswer}
 use Rattle.receiver.specs.declared.ReceiveAnswer.the-variants.{Result, Refused}
 use Rattle.codebook.specs.Rows.{lsfSize, magnitudeSize}
-use Rattle.spectra.specs.Values.{lsfRefusal, lsfWrites, magnitudesRefusal, magnitudesWrites}
-use Rattle.spectra.specs.declared.ValuesAnswer.{ValuesAnswer}
-use Rattle.spectra.specs.declared.ValuesAnswer.the-variants.{Written}
-use Rattle.spectra.specs.declared.ValuesAnswer.the-variants.{Refused as Values·Refused}
-use Rattle.codebook_text.specs.Text.{textRefusal, numbers}
+use Rattle.codebook_values.specs.Values.{lsfTable, lsfWrites, magnitudesTable, magnitudesWrites}
+use Rattle.codebook_values.specs.declared.ValuesAnswer.{ValuesAnswer}
+use Rattle.codebook_values.specs.declared.ValuesAnswer.the-variants.{Written}
+use Rattle.codebook_values.specs.declared.ValuesAnswer.the-variants.{Refused as Values·Refused}
+use Rattle.codebook_text.specs.Text.{textTable, numbers}
 use Rattle.codebook_text.specs.declared.TextAnswer.{TextAnswer}
 use Rattle.codebook_text.specs.declared.TextAnswer.the-variants.{Filled}
 use Rattle.codebook_text.specs.declared.TextAnswer.the-variants.{Refused as Text·Refused}
@@ -31,6 +34,10 @@ abbrev pub valuesNumber : ValuesAnswer → ℕ
 valuesNumber Written = 0
 valuesNumber (Values·Refused n) = n
 
+-- of two numbers of refusals the first that refuses
+abbrev pub firstOf : ℕ → ℕ → ℕ
+firstOf m n = firstRefusal ((not (eqb m 0), m) ∷ (not (eqb n 0), n) ∷ [])
+
 -- ten zeros
 abbrev pub zeros : List ℤ
 zeros = replicate 10 (pos 0)
@@ -42,7 +49,7 @@ refused n = record { refusal = n; lsf = zeros; magnitudes = zeros }
 -- the values of a set by both codebooks; a refusal of a row leaves zeros in place of what it refuses
 abbrev pub ofCodebooks : ParameterSet → List ℤ → List ℤ → Spectrum
 ofCodebooks set lsf magnitudes = record {
-  refusal = firstRefusal (lsfRefusal set lsf 10) (magnitudesRefusal set magnitudes 10);
+  refusal = firstRefusal (lsfTable set lsf 10 ++ magnitudesTable set magnitudes 10);
   lsf = lsfWrites set lsf zeros;
   magnitudes = magnitudesWrites set magnitudes zeros;
 }
@@ -55,7 +62,7 @@ unless (suc n) found = refused (suc n)
 -- the values of a set by the texts of both codebooks
 abbrev pub ofTexts : ParameterSet → List ℕ → List ℕ → Spectrum
 ofTexts set lsf magnitudes =
-    unless (firstRefusal (textRefusal lsfSize lsf lsfSize) (textRefusal magnitudeSize magnitudes magnitudeSize))
+    unless (firstRefusal (textTable lsfSize lsf lsfSize ++ textTable magnitudeSize magnitudes magnitudeSize))
     (ofCodebooks set (numbers lsfSize lsf) (numbers magnitudeSize magnitudes))
 
 -- the values by what a receiver answers

@@ -1,11 +1,10 @@
 // The values of a frame, by the texts of two codebooks.
 use codebook_text::TextAnswer;
+use codebook_values::ValuesAnswer;
 use receiver::ReceiveAnswer;
 use sets::ParameterSet;
-use spectra::ValuesAnswer;
 ghost use mathlib.Core.Path.{_≡_};
-ghost use Rattle.receiver.specs.Receiving.{firstRefusal};
-ghost use Rattle.spectrum.specs.Values.{refused, ofCodebooks, ofTexts, ofFrame, textNumber, valuesNumber};
+ghost use Rattle.spectrum.specs.Values.{refused, ofCodebooks, ofTexts, ofFrame, textNumber, valuesNumber, firstOf};
 
 // Values, or zeros where they are refused, and the number of the refusal, 0 is none.
 pub(crate) struct Spectrum {
@@ -50,9 +49,9 @@ fn of_codebooks(set: ParameterSet, lsf: &[i64], magnitudes: &[i64]) -> Spectrum
     ensures { λ r. ⌜ r ≡ ofCodebooks set (now (lsf .entry)) (now (magnitudes .entry)) ⌝ }
 {
     let mut components: [i64; 10] = [0; 10];
-    let first = values_refusal(spectra::lsf_values(set, lsf, &mut components));
+    let first = values_refusal(codebook_values::lsf_values(set, lsf, &mut components));
     let mut row: [i64; 10] = [0; 10];
-    let second = values_refusal(spectra::magnitudes(set, magnitudes, &mut row));
+    let second = values_refusal(codebook_values::magnitudes(set, magnitudes, &mut row));
     Spectrum {
         refusal: first_refusal(first, second),
         lsf: components,
@@ -73,7 +72,7 @@ fn refused(n: u8) -> Spectrum
 
 // Of two refusals the first that applies.
 fn first_refusal(a: u8, b: u8) -> u8
-    ensures { λ r. ⌜ r ≡ firstRefusal a b ⌝ }
+    ensures { λ r. ⌜ r ≡ firstOf a b ⌝ }
 {
     if a == 0 { b } else { a }
 }

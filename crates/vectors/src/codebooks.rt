@@ -6,8 +6,8 @@ use crate::vector::refused;
 use crate::vector::set_of;
 use crate::vector::signed;
 use crate::vector::wide_at;
+use codebook_values::ValuesAnswer;
 use sets::ParameterSet;
-use spectra::ValuesAnswer;
 use std::num::wrapping_add_u64;
 ghost use mathlib.Core.Path.{_≡_};
 ghost use Prim.Native.Nat.{_≤_};
@@ -116,9 +116,9 @@ fn magnitude_row_agrees(r: &[u8; 256], codebook: &[i64]) -> bool {
 // Values of a set by a codebook: LSF values in kind 18, magnitudes in kind 19.
 fn values(kind: u8, set: ParameterSet, codebook: &[i64], out: &mut [i64]) -> ValuesAnswer {
     if kind == 18 {
-        return spectra::lsf_values(set, codebook, out);
+        return codebook_values::lsf_values(set, codebook, out);
     }
-    spectra::magnitudes(set, codebook, out)
+    codebook_values::magnitudes(set, codebook, out)
 }
 
 // The refusal in an answer, 0 is none.

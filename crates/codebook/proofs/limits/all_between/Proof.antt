@@ -10,7 +10,7 @@ use mir.Val.{SFits, toZ}
 use mir.ValLaws.{toZ-ofZ}
 use borrow.Author.Needs.{needs}
 use Rattle.codebook.specs.Rows.{between, allFit}
-use Rattle.codebook.proofs.Entries.{fit-more, fit-end}
+use Rattle.codebook.proofs.Entries.{fit-more, fit-is}
 use Rattle.codebook.proofs.limits.all_between.Statement.{statement}
 use Rattle.codebook.proofs.limits.all_between.Tie as tie
 
@@ -54,7 +54,7 @@ returns : tie.Need-returns Inv-loop μ-loop
 returns c =
     let s = c .before .before in
     let L = c .before .loop in
-    simp (toZ-ofZ w64 _ (s .fits .least), toZ-ofZ w64 _ (s .fits .most)) at (fit-end _ _ (L .fit) (L .i) (c .loop-test .left) (L .inv .1))
+    simp (toZ-ofZ w64 _ (s .fits .least), toZ-ofZ w64 _ (s .fits .most)) at (fit-is _ _ (L .fit) (L .i) (c .loop-test .left) (L .inv .1))
 
 pub all-between-spec : {M : Type 1} → statement M
 all-between-spec =

@@ -4,7 +4,7 @@ use Prim.Native.Nat.{ℕ, _+_, _-_, _*_}
 use native.Mathlib.Omega.{arith}
 use lib.ListN.{length, take, drop}
 use borrow.Author.Needs.{needs}
-use Rattle.codebook.proofs.Handed.{row-length}
+use Rattle.codebook.proofs.Answers.{row-length}
 use Rattle.codebook.proofs.rows.row_at.Statement.{statement}
 use Rattle.codebook.proofs.rows.row_at.Tie as tie
 

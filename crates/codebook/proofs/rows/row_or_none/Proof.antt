@@ -10,7 +10,7 @@ use borrow.Author.Needs.{needs}
 use borrow.Author.Tests.{ltb-true, eqb-true}
 use Rattle.codebook.specs.Rows.{rowAt, between, allFit, rowUnless}
 use Rattle.codebook.specs.RowNumbers.{rowRefusal}
-use Rattle.codebook.proofs.Refusals.{refusal-none, row-refused}
+use Rattle.codebook.proofs.Refusals.{row-taken-only, row-refused}
 use Rattle.codebook.proofs.rows.row_or_none.Statement.{statement}
 use Rattle.codebook.proofs.rows.row_or_none.Tie as tie
 
@@ -29,7 +29,7 @@ row-at-requires c κs =
     let there = ltb (a .k) (a .rows) in
     let whole = eqb (length (a .codebook .now)) (10 * a .rows) in
     let fit = allFit (between (a .least) (a .most)) (rowAt (a .codebook .now) (a .k)) in
-    let t = refusal-none there whole fit (sym (refused (c .before)) ∙ c .if1 .taken) in
+    let t = row-taken-only there whole fit (sym (refused (c .before)) ∙ c .if1 .taken) in
     omega (arith, ltb-true (a .k) (a .rows) (t .0), eqb-true (length (a .codebook .now)) (10 * a .rows) (t .1))
 
 returns : tie.Need-returns

@@ -6,7 +6,7 @@ use native.Mathlib.Omega.{arith}
 use lib.ListN.{length, drop, getD}
 use borrow.Author.Tests.{not-true, not-false}
 use Rattle.codebook_text.specs.Text.{allDigits, isDigit}
-use Rattle.codebook_text.proofs.Digits.{digits-step, digits-out}
+use Rattle.codebook_text.proofs.Digits.{digits-more, digits-out}
 use borrow.Author.Needs.{needs}
 use Rattle.codebook_text.proofs.line.all_digits.Statement.{statement}
 use Rattle.codebook_text.proofs.line.all_digits.Tie as tie
@@ -32,7 +32,7 @@ returns c =
     let s = c .before .before .before .before .before .before .args .digits .now in
     let h : L .i < length s = omega arith in
     let f : isDigit (getD s (L .i) 0) ≡ false = sym (c .before .is-digit .ensures) ∙ not-true (c .before .is-digit .result) (c .if1 .taken) in
-    sym (L .inv .2 ∙ digits-step s (L .i) h ∙ ap (λ (b : Bool). b && allDigits (drop (L .i + 1) s)) f)
+    sym (L .inv .2 ∙ digits-more s (L .i) h ∙ ap (λ (b : Bool). b && allDigits (drop (L .i + 1) s)) f)
 
 add-i : tie.Need-add-i Inv-loop μ-loop
 add-i c = omega arith
@@ -46,7 +46,7 @@ loop-again c =
     let s = c .before .before .before .before .before .before .args .digits .now in
     let h : L .i < length s = omega arith in
     let f : isDigit (getD s (L .i) 0) ≡ true = sym (c .before .is-digit .ensures) ∙ not-false (c .before .is-digit .result) (c .if1 .left) in
-    (omega arith, omega arith, L .inv .2 ∙ digits-step s (L .i) h ∙ ap (λ (b : Bool). b && allDigits (drop (L .i + 1) s)) f)
+    (omega arith, omega arith, L .inv .2 ∙ digits-more s (L .i) h ∙ ap (λ (b : Bool). b && allDigits (drop (L .i + 1) s)) f)
 
 returns-2 : tie.Need-returns-2 Inv-loop μ-loop
 returns-2 c =

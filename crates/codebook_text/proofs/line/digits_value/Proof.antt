@@ -4,7 +4,7 @@ use Prim.Native.Nat.{_-_, _^_, _≤_, _<_}
 use native.Mathlib.Omega.{arith}
 use lib.ListN.{length, drop, getD}
 use Rattle.codebook_text.specs.Text.{valueAfter}
-use Rattle.codebook_text.proofs.Digits.{digits-parts, digit-at, value-step, value-out, value-lt, value-fits}
+use Rattle.codebook_text.proofs.Digits.{digits-parts, digit-at, value-more, value-out, value-lt, value-fits}
 use Rattle.codebook_text.proofs.line.digits_value.Statement.{statement}
 use Rattle.codebook_text.proofs.line.digits_value.Tie as tie
 
@@ -57,7 +57,7 @@ loop-again c =
     let s = c .before .before .before .args .digits .now in
     let h : L .i < length s = omega arith in
     let d : getD s (L .i) 0 - 48 ≤ 9 = omega (arith, digit c) in
-    (omega arith, omega arith, value-lt (L .value) _ (L .i) (L .inv .2) d, L .inv .3 ∙ value-step s (L .i) h (L .value))
+    (omega arith, omega arith, value-lt (L .value) _ (L .i) (L .inv .2) d, L .inv .3 ∙ value-more s (L .i) h (L .value))
 
 returns : tie.Need-returns Inv-loop μ-loop
 returns c =

@@ -2,7 +2,7 @@
 use mathlib.Core.Path.{_≡_, sym, _∙_}
 use mathlib.Core.Bool.{true, false}
 use Rattle.codebook_text.specs.Text.{isDigits, unsigned, digitsValue}
-use Rattle.codebook_text.proofs.Digits.{number-test, number-none}
+use Rattle.codebook_text.proofs.Digits.{number-is, number-none}
 use borrow.Author.Needs.{needs}
 use Rattle.codebook_text.proofs.line.is_number.Statement.{statement}
 use Rattle.codebook_text.proofs.line.is_number.Tie as tie
@@ -30,7 +30,7 @@ returns c =
     let line = u .before .before .args .line .now in
     let m : isDigits (unsigned line) ≡ true = rw (u .unsigned-part .ensures) at (tested s) in
     let v : c .digits-value .result ≡ digitsValue (unsigned line) = rw (u .unsigned-part .ensures) at (c .digits-value .ensures .0) in
-    number-test line (c .before .is-negative .result) (c .digits-value .result) m (c .before .is-negative .ensures) v
+    number-is line (c .before .is-negative .result) (c .digits-value .result) m (c .before .is-negative .ensures) v
 
 returns-2 : tie.Need-returns-2
 returns-2 c =

@@ -1,12 +1,11 @@
 -- `codebook_text::text::is_lines` meets its contract: the lines passed are good, so the test goes by those to come. Assumes nothing.
 use mathlib.Core.Path.{_≡_, refl, sym, _∙_}
-use Prim.Native.Nat.{_-_, _≤_, _<_}
+use Prim.Native.Nat.{_-_, _≤_}
 use native.Mathlib.Omega.{arith}
 use lib.ListN.{length, drop}
 use borrow.Author.Tests.{not-true, not-false}
 use Rattle.codebook_text.specs.Text.{lineOf, isNumber, isLines}
-use Rattle.codebook_text.proofs.Lines.{part-line}
-use Rattle.codebook_text.proofs.Turns.{end-test, lines-open, lines-bad, lines-good}
+use Rattle.codebook_text.proofs.Turns.{empty-is, Place, line-is, lines-open, lines-bad, lines-good}
 use borrow.Author.Needs.{needs}
 use Rattle.codebook_text.proofs.text.is_lines.Statement.{statement}
 use Rattle.codebook_text.proofs.text.is_lines.Tie as tie
@@ -26,12 +25,17 @@ loop-holds c =
 line-end-requires : tie.Need-line-end-requires Inv-loop μ-loop
 line-end-requires c κs = search needs
 
+-- the place of the line at hand
+place : (c : tie.After-line-end Inv-loop μ-loop) →
+    let turn = c .before .before in
+    let s = turn .before .before .args in
+    Place (s .text .now) (s .n) (turn .loop .i) (turn .loop .at) (c .line-end .result)
+place c = record { some = c .before .loop-test .taken; within = c .before .before .loop .inv .1; end = c .line-end .ensures .0 }
+
 returns : tie.Need-returns Inv-loop μ-loop
 returns c =
-    let L = c .before .before .before .loop in
-    let s = c .before .before .before .before .before .args in
-    let x = c .before .line-end in
-    sym (L .inv .2 ∙ lines-open (s .text .now) (s .n) (L .i) (L .at) (x .result) (c .before .before .loop-test .taken) (L .inv .1) (x .ensures .0) (c .if1 .taken))
+    let ended = c .before in
+    sym (ended .before .before .loop .inv .2 ∙ lines-open (place ended) (c .if1 .taken))
 
 sub-is-number : tie.Need-sub-is-number Inv-loop μ-loop
 sub-is-number c = omega arith
@@ -46,23 +50,17 @@ is-number-requires : tie.Need-is-number-requires Inv-loop μ-loop
 is-number-requires c κs = search needs
 
 -- what the call says of the line at hand
-judged : (c : tie.After-is-number Inv-loop μ-loop)
-    → isNumber (lineOf (drop (c .before .before .before .before .before .loop .at) (c .before .before .before .before .before .before .before .args .text .now)))
-    ≡ c .is-number .result
-judged c =
-    let L = c .before .before .before .before .before .loop in
-    let text = c .before .before .before .before .before .before .before .args .text .now in
-    let x = c .before .before .before .line-end in
-    sym (rw (part-line text (L .at) (x .result) (x .ensures .0)) at (c .is-number .ensures))
+judged : (c : tie.After-is-number Inv-loop μ-loop) →
+    let turn = c .before .before .before .before .before in
+    isNumber (lineOf (drop (turn .loop .at) (turn .before .before .args .text .now))) ≡ c .is-number .result
+judged c = sym (rw (line-is (place (c .before .before .before))) at (c .is-number .ensures))
 
 returns-2 : tie.Need-returns-2 Inv-loop μ-loop
 returns-2 c =
-    let L = c .before .before .before .before .before .before .loop in
-    let s = c .before .before .before .before .before .before .before .before .args in
-    let x = c .before .before .before .before .line-end in
-    let g = judged (c .before) ∙ not-true (c .before .is-number .result) (c .if2 .taken) in
-    let t = c .before .before .before .before .before .loop-test .taken in
-    sym (L .inv .2 ∙ lines-bad (s .text .now) (s .n) (L .i) (L .at) (x .result) t (L .inv .1) (x .ensures .0) g)
+    let judge = c .before in
+    let ended = judge .before .before .before in
+    let bad = judged judge ∙ not-true (judge .is-number .result) (c .if2 .taken) in
+    sym (ended .before .before .loop .inv .2 ∙ lines-bad (place ended) bad)
 
 add-at : tie.Need-add-at Inv-loop μ-loop
 add-at c = omega arith
@@ -75,13 +73,10 @@ loop-less c = omega arith
 
 loop-again : tie.Need-loop-again Inv-loop μ-loop
 loop-again c =
-    let L = c .before .before .before .before .before .before .loop in
-    let s = c .before .before .before .before .before .before .before .before .args in
-    let x = c .before .before .before .before .line-end in
-    let g = judged (c .before) ∙ not-false (c .before .is-number .result) (c .if2 .left) in
-    let t = c .before .before .before .before .before .loop-test .taken in
-    let h : x .result < length (s .text .now) = omega arith in
-    (omega arith, omega arith, L .inv .2 ∙ lines-good (s .text .now) (s .n) (L .i) (L .at) (x .result) t (L .inv .1) (x .ensures .0) h g)
+    let judge = c .before in
+    let ended = judge .before .before .before in
+    let good = judged judge ∙ not-false (judge .is-number .result) (c .if2 .left) in
+    (omega arith, omega arith, ended .before .before .loop .inv .2 ∙ lines-good (place ended) (omega arith) good)
 
 returns-3 : tie.Need-returns-3 Inv-loop μ-loop
 unfolding isLines
@@ -89,7 +84,7 @@ returns-3 c =
     let L = c .before .loop in
     let s = c .before .before .before .args in
     let e : s .n - L .i ≡ 0 = omega arith in
-    end-test (s .text .now) (L .at) (L .inv .1) ∙ sym (rw e at (L .inv .2))
+    empty-is (s .text .now) (L .at) (L .inv .1) ∙ sym (rw e at (L .inv .2))
 
 pub is-lines-spec : {M : Type 1} → statement M
 is-lines-spec =

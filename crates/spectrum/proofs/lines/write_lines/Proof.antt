@@ -7,7 +7,7 @@ use native.Mathlib.Omega.{arith}
 use lib.ListN.{length, getD, take}
 use lib.Seq.{take-all}
 use lib.IntN.{pos}
-use Rattle.spectra.proofs.Sizes.{back}
+use Rattle.codebook_values.proofs.Sizes.{back}
 use Rattle.spectrum.specs.Lines.{lines}
 use Rattle.report.specs.Lines.{valueLine}
 use Rattle.report.specs.Placing.{Appended}

@@ -6,7 +6,7 @@ use native.Mathlib.Omega.{arith}
 use borrow.Author.Needs.{needs}
 use Rattle.spectrum.specs.Values.{ofFrame}
 use Rattle.spectrum.specs.Lines.{text}
-use Rattle.spectrum.proofs.Enough.{read-printed}
+use Rattle.spectrum.proofs.Inputs.{read-printed}
 use Rattle.spectrum.proofs.printing.write_printed.Statement.{statement}
 use Rattle.spectrum.proofs.printing.write_printed.Tie as tie
 

@@ -1,6 +1,6 @@
 -- `spectrum::values::of_codebooks` meets its contract: both calls are made, and the first refusal counts. Assumes nothing.
 use borrow.Author.Needs.{needs}
-use Rattle.spectrum.proofs.Owed.{codebooks-owe}
+use Rattle.spectrum.proofs.Answers.{codebooks-owe}
 use Rattle.spectrum.proofs.values.of_codebooks.Statement.{statement}
 use Rattle.spectrum.proofs.values.of_codebooks.Tie as tie
 

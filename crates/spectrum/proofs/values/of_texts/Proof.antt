@@ -4,7 +4,7 @@ use lib.IntN.{pos}
 use lib.ListN.{replicate, length-replicate}
 use borrow.Author.Needs.{needs}
 use Rattle.spectrum.specs.Values.{ofCodebooks}
-use Rattle.spectrum.proofs.Owed.{texts-refused, texts-read}
+use Rattle.spectrum.proofs.Answers.{refusal-owes, texts-owe}
 use Rattle.spectrum.proofs.values.of_texts.Statement.{statement}
 use Rattle.spectrum.proofs.values.of_texts.Tie as tie
 
@@ -41,7 +41,7 @@ returns c =
     let fourth = first .before .before in
     let a = fourth .before .before .before .before .args in
     c .refused .ensures
-    ∙ texts-refused (a .set) (a .lsf .now) (a .magnitudes .now) _ _ _ _ _ (fourth .read-lsf .ensures .0) (first .text-refusal .ensures)
+    ∙ refusal-owes (a .set) (a .lsf .now) (a .magnitudes .now) _ _ _ _ _ (fourth .read-lsf .ensures .0) (first .text-refusal .ensures)
     (third .read-magnitudes .ensures .0) (second .text-refusal2 .ensures) (n .first-refusal .ensures) (c .before .if1 .taken)
 
 slice-aggregate-of-codebooks : tie.Need-slice-aggregate-of-codebooks
@@ -63,7 +63,7 @@ returns-2 c =
     let a = fourth .before .before .before .before .args in
     c .of-codebooks .ensures
     ∙ (λ i. ofCodebooks (a .set) (fourth .read-lsf .ensures .1 i) (third .read-magnitudes .ensures .1 i))
-    ∙ texts-read (a .set) (a .lsf .now) (a .magnitudes .now) _ _ _ _ _ (fourth .read-lsf .ensures .0) (first .text-refusal .ensures)
+    ∙ texts-owe (a .set) (a .lsf .now) (a .magnitudes .now) _ _ _ _ _ (fourth .read-lsf .ensures .0) (first .text-refusal .ensures)
     (third .read-magnitudes .ensures .0) (second .text-refusal2 .ensures) (n .first-refusal .ensures)
     (replicate 3200 (pos 0)) (replicate 2560 (pos 0)) (length-replicate 3200 (pos 0)) (length-replicate 2560 (pos 0)) (c .before .before .before .if1 .left)
 
