@@ -2,9 +2,10 @@
 
 use crate::codebooks::{self, LSF_LIMITS, LSF_SIZE, MAGNITUDE_LIMITS, MAGNITUDE_SIZE, ROW};
 use crate::coder_vectors::any_set;
-use crate::layout::{put, set_bytes, vector_of, Vector};
+use crate::layout::{put, vector_of, Vector};
 use crate::melp::{Refusal, Set};
 use crate::random::Random;
+use crate::set_bytes::bytes_of;
 
 /// What each number of an output or a buffer holds before a call.
 pub const HELD: i64 = -7;
@@ -253,7 +254,7 @@ pub fn values_of(codebook: Codebook, set: &Set, room: u8, rule: &Rule) -> Vector
         Codebook::Magnitudes => (19, codebooks::magnitudes),
     };
     let mut vector = vector_of(kind);
-    put(&mut vector, 1, &set_bytes(set));
+    put(&mut vector, 1, &bytes_of(set));
     vector[12] = room;
     rule.put(&mut vector);
     put_numbers(&mut vector, &[HELD; 12]);

@@ -1,9 +1,10 @@
 //! Vectors of packing, the pitch code, the words, the 54 bits of a frame, sets, and what a frame is read as.
 
 use crate::frames::{self, random_received, random_set};
-use crate::layout::{bits_of_word, put, put_answer, set_bytes, vector_of, word_of, Vector};
+use crate::layout::{bits_of_word, put, put_answer, vector_of, word_of, Vector};
 use crate::melp::{self, Content, PitchClass, Set, WordReading};
 use crate::random::Random;
+use crate::set_bytes::bytes_of;
 
 /// What each byte of an output holds before a call.
 const HELD: u8 = 165;
@@ -50,7 +51,7 @@ pub fn pack(random: &mut Random) -> Vector {
     let sync = random.inside(1);
     let room = random_output_length(random);
     let mut vector = vector_of(1);
-    put(&mut vector, 1, &set_bytes(&set));
+    put(&mut vector, 1, &bytes_of(&set));
     put(&mut vector, 12, &[sync, room]);
     put(&mut vector, 16, &[HELD; 16]);
     let packed = melp::pack(&set, sync, usize::from(room));
@@ -171,7 +172,7 @@ pub fn bits_of_frame(random: &mut Random) -> Vector {
 pub fn ranges(random: &mut Random) -> Vector {
     let set = any_set(random, 2);
     let mut vector = vector_of(12);
-    put(&mut vector, 1, &set_bytes(&set));
+    put(&mut vector, 1, &bytes_of(&set));
     vector[12] = u8::from(melp::set_in_range(&set));
     vector[13] = u8::from(melp::sender_takes(&set));
     put(&mut vector, 14, &set.lsf);
@@ -189,7 +190,7 @@ pub fn reading(random: &mut Random) -> Vector {
     match melp::read_bits(&bits_of_word(word)).expect("a pitch code of seven bits") {
         Content::Erased => vector[9] = 1,
         Content::Accepted { set, repaired } => {
-            put(&mut vector, 10, &set_bytes(&set));
+            put(&mut vector, 10, &bytes_of(&set));
             vector[21] = repaired;
         }
     }

@@ -1,6 +1,7 @@
 //! The bytes of a vector; which byte has what is in README.md.
 
-use crate::melp::{Record, Refusal, Set, Voicing};
+use crate::melp::{Record, Refusal};
+use crate::set_bytes::bytes_of;
 
 /// One vector.
 pub type Vector = [u8; 256];
@@ -30,32 +31,6 @@ pub fn put_answer<T>(
     }
 }
 
-/// A set in eleven bytes.
-pub fn set_bytes(set: &Set) -> [u8; 11] {
-    let [l1, l2, l3, l4] = set.lsf;
-    let lacking = Voicing {
-        pitch: 0,
-        bandpass: 0,
-        fourier: 0,
-        aperiodic: 0,
-    };
-    let v = set.voicing.unwrap_or(lacking);
-    let voiced = u8::from(set.voicing.is_some());
-    [
-        voiced,
-        v.pitch,
-        l1,
-        l2,
-        l3,
-        l4,
-        set.g2,
-        set.g1,
-        v.bandpass,
-        v.fourier,
-        v.aperiodic,
-    ]
-}
-
 /// Sixteen kinds in two bytes: a bit for each, 1 for a repeat, the oldest most significant.
 pub fn kinds_bytes(repeats: &[bool; 16]) -> [u8; 2] {
     let bits = repeats
@@ -68,7 +43,7 @@ pub fn kinds_bytes(repeats: &[bool; 16]) -> [u8; 2] {
 pub fn record_bytes(record: &Record) -> Vec<u8> {
     let [high, low] = kinds_bytes(&record.repeats);
     [
-        &set_bytes(&record.last_set)[..],
+        &bytes_of(&record.last_set)[..],
         &[record.last_g2, high, low],
     ]
     .concat()

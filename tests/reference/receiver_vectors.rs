@@ -2,9 +2,10 @@
 
 use crate::coder_vectors::spoil;
 use crate::frames::{random_received, random_set};
-use crate::layout::{kinds_bytes, put, record_bytes, set_bytes, vector_of, Vector};
+use crate::layout::{kinds_bytes, put, record_bytes, vector_of, Vector};
 use crate::melp::{self, FrameResult, Kind, Record};
 use crate::random::Random;
+use crate::set_bytes::bytes_of;
 
 /// Which of the latest 16 frames were repeats, often about as many as mute needs.
 fn random_repeats(random: &mut Random) -> [bool; 16] {
@@ -59,7 +60,7 @@ fn result_bytes(result: &FrameResult) -> Vec<u8> {
     };
     [
         &[kind][..],
-        &set_bytes(&result.set),
+        &bytes_of(&result.set),
         &(result.first_level as u16).to_be_bytes(),
         &(result.second_level as u16).to_be_bytes(),
         &[result.mute, result.sync, result.repaired],

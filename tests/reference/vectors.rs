@@ -11,6 +11,8 @@ mod level_vectors;
 mod melp;
 mod random;
 mod receiver_vectors;
+mod set_bytes;
+mod set_vectors;
 mod text_vectors;
 
 use layout::{vector_of, Vector};
@@ -22,7 +24,7 @@ use std::process::ExitCode;
 // ---- Kinds ----
 
 /// A maker of vectors of each kind, from kind 1 on.
-const MAKERS: [fn(&mut Random) -> Vector; 22] = [
+const MAKERS: [fn(&mut Random) -> Vector; 24] = [
     coder_vectors::pack,
     coder_vectors::class,
     coder_vectors::code,
@@ -45,6 +47,8 @@ const MAKERS: [fn(&mut Random) -> Vector; 22] = [
     text_vectors::lsf_text,
     text_vectors::magnitude_text,
     receiver_vectors::receive_in_place,
+    set_vectors::reading,
+    set_vectors::writing,
 ];
 
 /// One vector of a random kind, a quarter of them of receiving.
@@ -100,7 +104,9 @@ fn compared(vector: &Vector) -> Vec<usize> {
         16 | 17 => (72..=153).collect(),
         18 | 19 => once(72).chain(74..=169).collect(),
         20 | 21 => once(72).chain(compared_numbers(vector)).collect(),
-        _ => unreachable!("the makers have 22 kinds"),
+        23 => (14..=25).collect(),
+        24 => (12..=22).collect(),
+        _ => unreachable!("the makers have 24 kinds"),
     }
 }
 
@@ -128,6 +134,7 @@ fn good_vectors(random: &mut Random) -> Vec<Vector> {
     }
     vectors.extend(codebook_vectors::conditions());
     vectors.extend(text_vectors::conditions());
+    vectors.extend(set_vectors::conditions());
     vectors
 }
 
@@ -153,9 +160,28 @@ fn wrong_vectors(random: &mut Random) -> Vec<Vector> {
     vectors
 }
 
+/// Kinds whose bytes 1 to 11 are a set.
+const SET_KINDS: [usize; 7] = [1, 9, 12, 14, 18, 19, 22];
+
+/// Vectors with a set in a form that no set has: of a voiced one the first byte is 2, of an unvoiced one the flag is 1.
+fn vectors_of_no_set(random: &mut Random) -> Vec<Vector> {
+    let mut vectors = Vec::new();
+    for kind in SET_KINDS {
+        for (voiced, at, byte) in [(1, 1, 2), (0, 11, 1)] {
+            let mut vector = MAKERS[kind - 1](random);
+            while vector[1] != voiced {
+                vector = MAKERS[kind - 1](random);
+            }
+            vector[at] = byte;
+            vectors.push(vector);
+        }
+    }
+    vectors
+}
+
 /// Vectors of no kind, or with an argument that no vector has.
 fn bad_vectors(random: &mut Random) -> Vec<Vector> {
-    let mut vectors = vec![vector_of(0), vector_of(23), vector_of(255)];
+    let mut vectors = vec![vector_of(0), vector_of(25), vector_of(255)];
     let with = |kind: usize, at: usize, bytes: &[u8], random: &mut Random| {
         let mut vector = MAKERS[kind - 1](random);
         layout::put(&mut vector, at, bytes);
@@ -170,6 +196,8 @@ fn bad_vectors(random: &mut Random) -> Vec<Vector> {
     vectors.push(with(16, 73, &[13], random));
     vectors.push(with(18, 12, &[13], random));
     vectors.push(with(20, 16, &size, random));
+    vectors.push(with(23, 1, &[13], random));
+    vectors.extend(vectors_of_no_set(random));
     vectors
 }
 

@@ -1,3 +1,3 @@
+pub mod Tails
 pub mod Answers
 pub mod Turns
-pub mod Tails

@@ -1,10 +1,8 @@
 // Packs the parameter sets on standard input, eleven bytes each, and writes their frames to standard output:
 // at most 5,957 sets, which is what 65,536 bytes hold.
 //
-//   input   the set in eleven bytes
 //   frames  the frames of the sets, by a fresh sender
 mod frames;
-mod input;
 
 // Reads the sets and writes their frames. Bytes past the 65,536th stay unread.
 fn main() {

@@ -3,7 +3,6 @@ use crate::vector::count;
 use crate::vector::long_at;
 use crate::vector::number_at;
 use crate::vector::refused;
-use crate::vector::set_of;
 use crate::vector::signed;
 use crate::vector::wide_at;
 use codebook_values::ValuesAnswer;
@@ -135,33 +134,41 @@ fn output_agrees(r: &[u8; 256], out: &[i64; 12]) -> bool {
     is_same(out, &numbers)
 }
 
-// Kinds 18 and 19: values, with the twelve numbers of the output afterwards.
-fn values_agree(r: &[u8; 256], codebook: &[i64]) -> bool {
+// Whether the values of a set by a codebook, and their output, are those in bytes 72 to 169.
+fn written_agrees(r: &[u8; 256], set: ParameterSet, codebook: &[i64]) -> bool {
     let room = count(r[12]);
     if 12 < room {
         return false;
     }
     let mut out = [HELD; 12];
-    let answer = values(r[0], set_of(r), codebook, &mut out[..room]);
+    let answer = values(r[0], set, codebook, &mut out[..room]);
     (r[72] == refusal_of(answer)) & output_agrees(r, &out)
 }
 
-// A call of kinds 16 to 19 with a codebook.
-fn call_agrees(r: &[u8; 256], codebook: &[i64]) -> bool {
-    let kind = r[0];
-    match kind {
-        16 => lsf_row_agrees(r, codebook),
-        17 => magnitude_row_agrees(r, codebook),
-        _ => values_agree(r, codebook),
-    }
-}
-
-// Kinds 16 to 19, with the codebook that the vector gives.
-pub(crate) fn codebook_agrees(r: &[u8; 256]) -> bool {
+// Kinds 18 and 19: values, by the codebook that the vector gives.
+pub(crate) fn values_agree(r: &[u8; 256], set: ParameterSet) -> bool {
     let size = size_of(r);
     if 3201 < size {
         return false;
     }
     let codebook = codebook_of(r);
-    call_agrees(r, front(&codebook, size))
+    written_agrees(r, set, front(&codebook, size))
+}
+
+// A row of a codebook, by its kind.
+fn handed_agrees(r: &[u8; 256], codebook: &[i64]) -> bool {
+    if r[0] == 16 {
+        return lsf_row_agrees(r, codebook);
+    }
+    magnitude_row_agrees(r, codebook)
+}
+
+// Kinds 16 and 17: a row of the codebook that the vector gives.
+pub(crate) fn rows_agree(r: &[u8; 256]) -> bool {
+    let size = size_of(r);
+    if 3201 < size {
+        return false;
+    }
+    let codebook = codebook_of(r);
+    handed_agrees(r, front(&codebook, size))
 }

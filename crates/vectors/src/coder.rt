@@ -3,13 +3,13 @@ use crate::vector::bit;
 use crate::vector::bytes_agree;
 use crate::vector::count;
 use crate::vector::refused;
-use crate::vector::set_of;
 use frame::PackAnswer;
 use hamming::Decoded;
 use hamming::WordLength;
 use pitch::ClassAnswer;
 use pitch::CodeAnswer;
 use pitch::PitchClass;
+use sets::ParameterSet;
 ghost use mathlib.Core.Path.{_≡_};
 ghost use lib.ListN.{length};
 
@@ -33,13 +33,13 @@ fn packed_agrees(r: &[u8; 256], answer: PackAnswer, out: &[u8; 16]) -> bool {
 }
 
 // Kind 1: packing.
-pub(crate) fn pack_agrees(r: &[u8; 256]) -> bool {
+pub(crate) fn pack_agrees(r: &[u8; 256], set: ParameterSet) -> bool {
     let room = count(r[13]);
     if 16 < room {
         return false;
     }
     let mut out = [HELD; 16];
-    let answer = frame::pack(set_of(r), r[12] == 1, &mut out[..room]);
+    let answer = frame::pack(set, r[12] == 1, &mut out[..room]);
     packed_agrees(r, answer, &out)
 }
 

@@ -1,12 +1,10 @@
-// Vectors of the 54 bits of a frame, of sets, and of what a frame is read as.
-use crate::vector::bit;
+// Vectors of the 54 bits of a frame, and of what a frame is read as.
 use crate::vector::bytes_agree;
 use crate::vector::count;
 use crate::vector::long_at;
 use crate::vector::part;
 use crate::vector::refused;
 use crate::vector::set_agrees;
-use crate::vector::set_of;
 use order::BitsAnswer;
 use reading::Reading;
 
@@ -31,23 +29,6 @@ pub(crate) fn logical_agrees(r: &[u8; 256]) -> bool {
         return false;
     }
     bits_agree(order::logical_bits(part(r, 2, size)), r[11], long_at(r, 12))
-}
-
-// Kind 12: the ranges and the indices of a set.
-pub(crate) fn ranges_agree(r: &[u8; 256]) -> bool {
-    let set = set_of(r);
-    let x = sets::indices_of(set);
-    let bytes = [
-        bit(sets::is_in_range(set)),
-        bit(sets::is_sendable(set)),
-        x.l1,
-        x.l2,
-        x.l3,
-        x.l4,
-        x.g2,
-        x.g1,
-    ];
-    bytes_agree(r, 12, &bytes)
 }
 
 // Kind 13: what 54 bits are read as; of an erasure nothing else is told.

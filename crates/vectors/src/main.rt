@@ -1,30 +1,55 @@
 // Runs the vectors of an independent implementation, from standard input, through the libraries. A vector
 // is 256 bytes: its kind, the arguments of a call, and what the call must answer.
 //
-//   vector     the bytes of a vector, and the numbers and sets in them
-//   coder      packing, the pitch code and the words
-//   frames     the 54 bits of a frame, sets, and what a frame is read as
-//   levels     gain levels and gain codes
-//   taking     receiving, and a receiver's record
-//   in_place   receiving into a record in place
-//   codebooks  rows of a codebook, and values by them
-//   texts      codebooks in their text form
+//   vector      the bytes of a vector, and the numbers in them
+//   coder       packing, the pitch code and the words
+//   parameters  sets: their ranges and their bytes
+//   frames      the 54 bits of a frame, and what a frame is read as
+//   levels      gain levels and gain codes
+//   receiving   receiving, and a receiver's record
+//   in_place    receiving into a record in place
+//   codebooks   rows of a codebook, and values by them
+//   texts       codebooks in their text form
 mod codebooks;
 mod coder;
 mod frames;
 mod in_place;
 mod levels;
-mod taking;
+mod parameters;
+mod receiving;
 mod texts;
 mod vector;
 
+use set_bytes::SetAnswer;
+use sets::ParameterSet;
+use vector::part;
 ghost use Prim.Native.Nat.{_≤_};
+
+// A call with the set in bytes 1 to 11.
+fn call_agrees(r: &[u8; 256], set: ParameterSet) -> bool {
+    let kind = r[0];
+    match kind {
+        1 => coder::pack_agrees(r, set),
+        12 => parameters::ranges_agree(r, set),
+        14 => receiving::history_agrees(r, set),
+        18 | 19 => codebooks::values_agree(r, set),
+        _ => receiving::receive_agrees(r, set),
+    }
+}
+
+// The same where these bytes may be those of no set: then no call agrees.
+fn set_call_agrees(r: &[u8; 256]) -> bool {
+    match set_bytes::read(part(r, 1, 11)) {
+        SetAnswer::Set(set) => call_agrees(r, set),
+        SetAnswer::Refused(_) => false,
+    }
+}
 
 // Whether the libraries answer as the vector says.
 fn agrees(r: &[u8; 256]) -> bool {
     let kind = r[0];
     match kind {
-        1 => coder::pack_agrees(r),
+        1 | 9 | 12 | 14 | 18 | 19 | 22 => set_call_agrees(r),
         2 => coder::class_agrees(r),
         3 => coder::code_agrees(r),
         4 => coder::word_agrees(r),
@@ -32,15 +57,14 @@ fn agrees(r: &[u8; 256]) -> bool {
         6 => levels::first_agrees(r),
         7 => levels::second_agrees(r),
         8 => levels::choice_agrees(r),
-        9 | 22 => taking::receive_agrees(r),
         10 => frames::frame_agrees(r),
         11 => frames::logical_agrees(r),
-        12 => frames::ranges_agree(r),
         13 => frames::reading_agrees(r),
-        14 => taking::history_agrees(r),
-        15 => taking::fresh_agrees(r),
-        16..=19 => codebooks::codebook_agrees(r),
+        15 => receiving::fresh_agrees(r),
+        16 | 17 => codebooks::rows_agree(r),
         20 | 21 => texts::text_agrees(r),
+        23 => parameters::reading_agrees(r),
+        24 => parameters::writing_agrees(r),
         _ => false,
     }
 }

@@ -1,7 +1,5 @@
 // The 256 bytes of a vector, and the numbers and sets that stand in them.
-use sets::Indices;
 use sets::ParameterSet;
-use sets::Voicing;
 ghost use mathlib.Core.Path.{_≡_};
 ghost use Prim.Native.Nat.{_+_, _≤_, _<_};
 ghost use lib.ListN.{length};
@@ -89,62 +87,10 @@ pub(crate) fn bytes_agree(r: &[u8; 256], start: usize, bytes: &[u8]) -> bool
     same
 }
 
-// The indices in bytes 3 to 8.
-fn indices_of(r: &[u8; 256]) -> Indices {
-    Indices {
-        l1: r[3],
-        l2: r[4],
-        l3: r[5],
-        l4: r[6],
-        g2: r[7],
-        g1: r[8],
-    }
-}
-
-// What a voiced set has besides, in bytes 2 and 9 to 11.
-fn voicing_of(r: &[u8; 256]) -> Voicing {
-    Voicing {
-        pitch: r[2],
-        bandpass: r[9],
-        fourier: r[10],
-        aperiodic: r[11],
-    }
-}
-
-// The set in bytes 1 to 11.
-pub(crate) fn set_of(r: &[u8; 256]) -> ParameterSet {
-    if r[1] == 0 {
-        return ParameterSet::Unvoiced(indices_of(r));
-    }
-    ParameterSet::Voiced(indices_of(r), voicing_of(r))
-}
-
-// A set as a vector has it.
-fn set_bytes(set: ParameterSet) -> [u8; 11]
-    ensures { λ r. ⌜ length r ≡ 11 ⌝ }
-{
-    match set {
-        ParameterSet::Unvoiced(x) => [0, 0, x.l1, x.l2, x.l3, x.l4, x.g2, x.g1, 0, 0, 0],
-        ParameterSet::Voiced(x, v) => [
-            1,
-            v.pitch,
-            x.l1,
-            x.l2,
-            x.l3,
-            x.l4,
-            x.g2,
-            x.g1,
-            v.bandpass,
-            v.fourier,
-            v.aperiodic,
-        ],
-    }
-}
-
 // Whether the set is the one in the eleven bytes from `start`.
 pub(crate) fn set_agrees(r: &[u8; 256], start: usize, set: ParameterSet) -> bool
     requires { ⌜ start ≤ 245 ⌝ }
 {
-    let bytes = set_bytes(set);
+    let bytes = set_bytes::write(set);
     bytes_agree(r, start, &bytes)
 }

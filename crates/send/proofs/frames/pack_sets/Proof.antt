@@ -7,8 +7,7 @@ use native.Mathlib.Omega.{arith}
 use lib.ListN.{length}
 use borrow.Author.Needs.{needs}
 use Rattle.send.specs.Sending.{setsIn, sentFrom, sent}
-use Rattle.send.proofs.Turns.{SoFar, last-owes}
-use Rattle.send.proofs.Tails.{packed-turn, refused-turn}
+use Rattle.send.proofs.Turns.{SoFar, last-owes, packed-owes, refused-owes}
 use Rattle.send.proofs.frames.pack_sets.Statement.{statement}
 use Rattle.send.proofs.frames.pack_sets.Tie as tie
 
@@ -29,26 +28,8 @@ loop-holds c =
     let n : setsIn bytes - 0 ≡ setsIn bytes = omega arith in
     (refl, omega arith, s .pre, (refl, ap₂ (λ (b : Bool) (m : ℕ). sentFrom bytes b 0 m) (c .fresh-sync .ensures) n, refl))
 
-mul-set-at : tie.Need-mul-set-at Inv-loop μ-loop
-mul-set-at c = search needs
-
-set-at-requires : tie.Need-set-at-requires Inv-loop μ-loop
-set-at-requires c κs = search needs
-
-mul-pack : tie.Need-mul-pack Inv-loop μ-loop
-mul-pack c = search needs
-
-sub-pack : tie.Need-sub-pack Inv-loop μ-loop
-sub-pack c = search needs
-
-part-pack-start : tie.Need-part-pack-start Inv-loop μ-loop
-part-pack-start c = search needs
-
-part-pack-end : tie.Need-part-pack-end Inv-loop μ-loop
-part-pack-end c = search needs
-
-pack-requires : tie.Need-pack-requires Inv-loop μ-loop
-pack-requires c κs = search needs
+pack-set-requires : tie.Need-pack-set-requires Inv-loop μ-loop
+pack-set-requires c κs = search needs
 
 enum-known-answer : tie.Need-enum-known-answer Inv-loop μ-loop
 enum-known-answer c = search needs
@@ -64,12 +45,13 @@ same-length c = search needs
 
 returns : tie.Need-returns Inv-loop μ-loop
 returns c =
-    let p = c .before .before .before .before in
-    let t = p .before .before in
-    let L = t .before .before .loop in
-    let a = t .before .before .before .before .before .before .args in
-    refused-turn (a .bytes .now) (a .out .now) (L .sync) (L .k) (L .out) (L .inv .3) (t .before .loop-test .taken) (L .inv .2) _ (t .set-at .ensures) _ _
-    (p .pack .ensures) _ (c .enum-told .given .1)
+    let packed = c .before .before .before .before in
+    let turn = packed .before .before in
+    let L = turn .before .loop in
+    let a = turn .before .before .before .before .before .args in
+    let le : 7 * L .k ≤ length (L .out) = omega (arith, L .inv) in
+    refused-owes (a .bytes .now) (a .out .now) (L .sync) (L .k) (L .out) (L .inv .3) le (turn .loop-test .taken) (L .inv .2) _ _
+    (packed .pack-set .ensures) _ (c .enum-told .given .1)
 
 add-k : tie.Need-add-k Inv-loop μ-loop
 add-k c = search needs
@@ -79,13 +61,14 @@ loop-less c = search needs
 
 loop-again : tie.Need-loop-again Inv-loop μ-loop
 loop-again c =
-    let p = c .before .before .before .before .before in
-    let t = p .before .before in
-    let L = t .before .before .loop in
-    let a = t .before .before .before .before .before .before .args in
-    let m = packed-turn (a .bytes .now) (a .out .now) (L .sync) (L .k) (L .out) (L .inv .3) (t .before .loop-test .taken) (L .inv .2) _ (t .set-at .ensures) _ _
-    (p .pack .ensures) _ (c .before .answer .given .1) in
-    rw add-one (L .inv .0, omega arith, L .inv .2, m)
+    let packed = c .before .before .before .before .before in
+    let turn = packed .before .before in
+    let L = turn .before .loop in
+    let a = turn .before .before .before .before .before .args in
+    let le : 7 * L .k ≤ length (L .out) = omega (arith, L .inv) in
+    let more = packed-owes (a .bytes .now) (a .out .now) (L .sync) (L .k) (L .out) (L .inv .3) le (turn .loop-test .taken) (L .inv .2) _ _
+    (packed .pack-set .ensures) _ (c .before .answer .given .1) in
+    rw add-one (L .inv .0, omega arith, L .inv .2, more)
 
 mul-result-2 : tie.Need-mul-result-2 Inv-loop μ-loop
 mul-result-2 c = search needs
@@ -109,13 +92,7 @@ pack-sets-spec =
     μ-loop
     fresh-sync-requires
     loop-holds
-    mul-set-at
-    set-at-requires
-    mul-pack
-    sub-pack
-    part-pack-start
-    part-pack-end
-    pack-requires
+    pack-set-requires
     enum-known-answer
     enum-told
     mul-result

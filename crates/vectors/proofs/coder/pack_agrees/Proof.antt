@@ -14,9 +14,6 @@ count-requires c κs = search needs
 returns : tie.Need-returns
 returns c = search needs
 
-set-of-requires : tie.Need-set-of-requires
-set-of-requires c κs = search needs
-
 element-copy-out-pack : tie.Need-element-copy-out-pack
 element-copy-out-pack c = search needs
 
@@ -24,7 +21,7 @@ array-borrow-prefix-out : tie.Need-array-borrow-prefix-out
 array-borrow-prefix-out c = search needs
 
 slice-aggregate-pack : tie.Need-slice-aggregate-pack
-slice-aggregate-pack c = sym (length-take-le _ _ (c .before .before .before .if1 .left))
+slice-aggregate-pack c = sym (length-take-le _ _ (c .before .before .if1 .left))
 
 pack-requires : tie.Need-pack-requires
 pack-requires c κs = search needs
@@ -42,7 +39,6 @@ pack-agrees-spec =
     element-copy-out-count
     count-requires
     returns
-    set-of-requires
     element-copy-out-pack
     array-borrow-prefix-out
     slice-aggregate-pack

@@ -1,9 +1,9 @@
--- `vectors::codebooks::values_agree` is safe: at most 12 numbers of the output are lent. Assumes nothing.
+-- `vectors::codebooks::written_agrees` is safe: at most 12 numbers of the output are lent. Assumes nothing.
 use mathlib.Core.Path.{sym}
 use lib.Seq.{length-take-le}
 use borrow.Author.Needs.{needs}
-use Rattle.vectors.proofs.codebooks.values_agree.Statement.{statement}
-use Rattle.vectors.proofs.codebooks.values_agree.Tie as tie
+use Rattle.vectors.proofs.codebooks.written_agrees.Statement.{statement}
+use Rattle.vectors.proofs.codebooks.written_agrees.Tie as tie
 
 element-copy-out-count : tie.Need-element-copy-out-count
 element-copy-out-count c = search needs
@@ -17,14 +17,11 @@ returns c = search needs
 element-copy-out-values : tie.Need-element-copy-out-values
 element-copy-out-values c = search needs
 
-set-of-requires : tie.Need-set-of-requires
-set-of-requires c κs = search needs
-
 array-borrow-prefix-out : tie.Need-array-borrow-prefix-out
 array-borrow-prefix-out c = search needs
 
 slice-aggregate-values : tie.Need-slice-aggregate-values
-slice-aggregate-values c = sym (length-take-le _ _ (c .before .before .before .if1 .left))
+slice-aggregate-values c = sym (length-take-le _ _ (c .before .before .if1 .left))
 
 values-requires : tie.Need-values-requires
 values-requires c κs = search needs
@@ -41,15 +38,14 @@ output-agrees-requires c κs = search needs
 returns-2 : tie.Need-returns-2
 returns-2 c = search needs
 
-pub values-agree-spec : {M : Type 1} → statement M
-values-agree-spec =
+pub written-agrees-spec : {M : Type 1} → statement M
+written-agrees-spec =
     tie.close
     (tie.spec
     element-copy-out-count
     count-requires
     returns
     element-copy-out-values
-    set-of-requires
     array-borrow-prefix-out
     slice-aggregate-values
     values-requires

@@ -1,8 +1,8 @@
--- `vectors::taking::bits_of` is safe and ends: i is at most 16. Assumes nothing.
+-- `vectors::receiving::bits_of` is safe and ends: i is at most 16. Assumes nothing.
 use Prim.Native.Nat.{_≤_, _-_}
 use borrow.Author.Needs.{needs}
-use Rattle.vectors.proofs.taking.bits_of.Statement.{statement}
-use Rattle.vectors.proofs.taking.bits_of.Tie as tie
+use Rattle.vectors.proofs.receiving.bits_of.Statement.{statement}
+use Rattle.vectors.proofs.receiving.bits_of.Tie as tie
 
 abbrev Inv-loop : tie.InvT-loop
 Inv-loop kinds bits₀ i₀ bits i = i ≤ 16

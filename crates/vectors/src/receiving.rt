@@ -6,7 +6,6 @@ use crate::vector::count;
 use crate::vector::part;
 use crate::vector::refused;
 use crate::vector::set_agrees;
-use crate::vector::set_of;
 use crate::vector::wide_at;
 use receiver::FrameResult;
 use receiver::Kind;
@@ -14,6 +13,7 @@ use receiver::ReceiveAnswer;
 use receiver::Received;
 use records::FrameKind;
 use records::Record;
+use sets::ParameterSet;
 ghost use Prim.Native.Nat.{_≤_};
 
 // The sixteen kinds by their bits, 1 for a repeat, the oldest most significant.
@@ -39,10 +39,10 @@ fn bits_of(kinds: [FrameKind; 16]) -> u32 {
     bits
 }
 
-// The record in bytes 1 to 14.
-fn record_of(r: &[u8; 256]) -> Record {
+// The record in bytes 1 to 14, whose set is in the first eleven.
+fn record_of(r: &[u8; 256], last: ParameterSet) -> Record {
     Record {
-        last: set_of(r),
+        last,
         g2: r[12],
         kinds: kinds_of(wide_at(r, 13)),
     }
@@ -113,12 +113,12 @@ fn received(kind: u8, rec: Record, frame: &[u8]) -> Received {
 }
 
 // Kinds 9 and 22: receiving.
-pub(crate) fn receive_agrees(r: &[u8; 256]) -> bool {
+pub(crate) fn receive_agrees(r: &[u8; 256], last: ParameterSet) -> bool {
     let size = count(r[15]);
     if 9 < size {
         return false;
     }
-    received_agrees(r, received(r[0], record_of(r), part(r, 16, size)))
+    received_agrees(r, received(r[0], record_of(r, last), part(r, 16, size)))
 }
 
 // Whether the kinds after one more are those in bytes 18 and 19.
@@ -128,8 +128,8 @@ fn pushed_agrees(r: &[u8; 256], kinds: [FrameKind; 16]) -> bool {
 }
 
 // Kind 14: whether a record is valid, whether its kinds mute, and the kinds after one more.
-pub(crate) fn history_agrees(r: &[u8; 256]) -> bool {
-    let rec = record_of(r);
+pub(crate) fn history_agrees(r: &[u8; 256], last: ParameterSet) -> bool {
+    let rec = record_of(r, last);
     let kinds = rec.kinds;
     let bytes = [bit(records::is_valid(rec)), bit(records::is_muted(kinds))];
     bytes_agree(r, 16, &bytes) & pushed_agrees(r, kinds)

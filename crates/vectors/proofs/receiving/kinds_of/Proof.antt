@@ -1,10 +1,10 @@
--- `vectors::taking::kinds_of` is safe and ends: i is at most 16. Assumes nothing.
+-- `vectors::receiving::kinds_of` is safe and ends: i is at most 16. Assumes nothing.
 use mathlib.Core.Path.{_≡_}
 use Prim.Native.Nat.{_≤_, _-_}
 use lib.ListN.{length}
 use borrow.Author.Needs.{needs}
-use Rattle.vectors.proofs.taking.kinds_of.Statement.{statement}
-use Rattle.vectors.proofs.taking.kinds_of.Tie as tie
+use Rattle.vectors.proofs.receiving.kinds_of.Statement.{statement}
+use Rattle.vectors.proofs.receiving.kinds_of.Tie as tie
 
 abbrev Inv-loop : tie.InvT-loop
 Inv-loop bits kinds₀ left₀ i₀ kinds left i = (i ≤ 16) × (length kinds ≡ 16)

@@ -1,0 +1,4 @@
+pub mod Comparison
+pub mod SetBytes
+pub mod Answers
+pub mod Examples

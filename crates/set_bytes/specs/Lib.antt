@@ -1,0 +1,2 @@
+pub mod SetBytes
+pub mod Examples
