@@ -121,10 +121,20 @@ pub(crate) fn receive_agrees(r: &[u8; 256], last: ParameterSet) -> bool {
     received_agrees(r, received(r[0], record_of(r, last), part(r, 16, size)))
 }
 
+// The record after a frame of the kind in byte 15, an accepted one with the set that the record has already.
+fn next_record(kind: u8, rec: Record) -> Record {
+    if kind == 1 {
+        return records::after_repeat(rec);
+    }
+    let last = rec.last;
+    records::after_accepted(rec, last)
+}
+
 // Whether the kinds after one more are those in bytes 18 and 19.
-fn pushed_agrees(r: &[u8; 256], kinds: [FrameKind; 16]) -> bool {
-    let kind = FrameKind { repeat: r[15] == 1 };
-    wide_at(r, 18) == bits_of(records::push(kinds, kind))
+fn next_agrees(r: &[u8; 256], rec: Record) -> bool {
+    let next = next_record(r[15], rec);
+    let kinds = next.kinds;
+    wide_at(r, 18) == bits_of(kinds)
 }
 
 // Kind 14: whether a record is valid, whether its kinds mute, and the kinds after one more.
@@ -132,7 +142,7 @@ pub(crate) fn history_agrees(r: &[u8; 256], last: ParameterSet) -> bool {
     let rec = record_of(r, last);
     let kinds = rec.kinds;
     let bytes = [bit(records::is_valid(rec)), bit(records::is_muted(kinds))];
-    bytes_agree(r, 16, &bytes) & pushed_agrees(r, kinds)
+    bytes_agree(r, 16, &bytes) & next_agrees(r, rec)
 }
 
 // Kind 15: what a sender and a receiver start with.
