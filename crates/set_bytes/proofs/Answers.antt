@@ -12,7 +12,7 @@ use Rattle.bits.specs.Bits.{cut}
 use Rattle.bits.proofs.Cut.{cut-getD}
 use Rattle.sets.specs.declared.ParameterSet.{ParameterSet}
 use Rattle.sets.specs.declared.ParameterSet.the-variants.{Unvoiced, Voiced}
-use Rattle.set_bytes.specs.SetBytes.{bytesOf, indicesIn, voicingIn, setIn, same, isSet, readAnswer}
+use Rattle.set_bytes.specs.SetBytes.{bytesOf, readIndices, readVoicing, setIn, same, isSet, readAnswer}
 use Rattle.set_bytes.specs.declared.SetAnswer.the-variants.{Set, Refused}
 use Rattle.set_bytes.proofs.Comparison.{same-append}
 use Rattle.set_bytes.proofs.SetBytes.{bytes-length, bytes-fits, fits-only, answer-is}
@@ -29,10 +29,10 @@ five-tests true true true true true = refl
 module _ (bytes : List ℕ) where
   -- the two sets that bytes can be those of
   abbrev voiced : ParameterSet
-  voiced = Voiced (indicesIn bytes) (voicingIn bytes)
+  voiced = Voiced (readIndices bytes) (readVoicing bytes)
 
   abbrev unvoiced : ParameterSet
-  unvoiced = Unvoiced (indicesIn bytes)
+  unvoiced = Unvoiced (readIndices bytes)
 
   -- the first byte tells which one
   set-voiced : getD bytes 0 0 ≡ 1 → setIn bytes ≡ voiced

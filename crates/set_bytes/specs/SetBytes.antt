@@ -18,8 +18,8 @@ bytesOf (Unvoiced x) = 0 ∷ 0 ∷ x .l1 ∷ x .l2 ∷ x .l3 ∷ x .l4 ∷ x .g2
 bytesOf (Voiced x v) = 1 ∷ v .pitch ∷ x .l1 ∷ x .l2 ∷ x .l3 ∷ x .l4 ∷ x .g2 ∷ x .g1 ∷ v .bandpass ∷ v .fourier ∷ v .aperiodic ∷ []
 
 -- the set that the bytes would be those of, each index taken from its place
-abbrev pub indicesIn : List ℕ → Indices
-indicesIn bytes = record {
+abbrev pub readIndices : List ℕ → Indices
+readIndices bytes = record {
   l1 = getD bytes 2 0;
   l2 = getD bytes 3 0;
   l3 = getD bytes 4 0;
@@ -28,8 +28,8 @@ indicesIn bytes = record {
   g1 = getD bytes 7 0;
 }
 
-abbrev pub voicingIn : List ℕ → Voicing
-voicingIn bytes = record {
+abbrev pub readVoicing : List ℕ → Voicing
+readVoicing bytes = record {
   pitch = getD bytes 1 0;
   bandpass = getD bytes 8 0;
   fourier = getD bytes 9 0;
@@ -37,7 +37,7 @@ voicingIn bytes = record {
 }
 
 unfoldable pub setIn : List ℕ → ParameterSet
-setIn bytes = cond (eqb (getD bytes 0 0) 1) (Voiced (indicesIn bytes) (voicingIn bytes)) (Unvoiced (indicesIn bytes))
+setIn bytes = cond (eqb (getD bytes 0 0) 1) (Voiced (readIndices bytes) (readVoicing bytes)) (Unvoiced (readIndices bytes))
 
 -- whether two lists of bytes are the same
 abbrev pub same : List ℕ → List ℕ → Bool

@@ -6,12 +6,12 @@ use sets::Voicing;
 ghost use mathlib.Core.Path.{_≡_};
 ghost use lib.ListN.{length};
 ghost use Rattle.sets.specs.declared.ParameterSet.the-variants.{Unvoiced};
-ghost use Rattle.set_bytes.specs.SetBytes.{same, bytesOf, indicesIn, voicingIn, readAnswer};
+ghost use Rattle.set_bytes.specs.SetBytes.{same, bytesOf, readIndices, readVoicing, readAnswer};
 
 // Bytes 2 to 7, which every set has.
-fn indices_in(bytes: &[u8]) -> Indices
+fn read_indices(bytes: &[u8]) -> Indices
     requires { ⌜ length (now bytes) ≡ 11 ⌝ }
-    ensures { λ r. ⌜ r ≡ indicesIn (now (bytes .entry)) ⌝ }
+    ensures { λ r. ⌜ r ≡ readIndices (now (bytes .entry)) ⌝ }
 {
     Indices {
         l1: bytes[2],
@@ -24,9 +24,9 @@ fn indices_in(bytes: &[u8]) -> Indices
 }
 
 // Bytes 1 and 8 to 10, which only a voiced set has.
-fn voicing_in(bytes: &[u8]) -> Voicing
+fn read_voicing(bytes: &[u8]) -> Voicing
     requires { ⌜ length (now bytes) ≡ 11 ⌝ }
-    ensures { λ r. ⌜ r ≡ voicingIn (now (bytes .entry)) ⌝ }
+    ensures { λ r. ⌜ r ≡ readVoicing (now (bytes .entry)) ⌝ }
 {
     Voicing {
         pitch: bytes[1],
@@ -39,7 +39,7 @@ fn voicing_in(bytes: &[u8]) -> Voicing
 // Whether eleven bytes are those of an unvoiced set: 0 in the first and in all that it lacks.
 fn is_unvoiced(bytes: &[u8]) -> bool
     requires { ⌜ length (now bytes) ≡ 11 ⌝ }
-    ensures { λ r. ⌜ r ≡ same (now (bytes .entry)) (bytesOf (Unvoiced (indicesIn (now (bytes .entry))))) ⌝ }
+    ensures { λ r. ⌜ r ≡ same (now (bytes .entry)) (bytesOf (Unvoiced (readIndices (now (bytes .entry))))) ⌝ }
 {
     (bytes[0] == 0) & (bytes[1] == 0) & (bytes[8] == 0) & (bytes[9] == 0) & (bytes[10] == 0)
 }
@@ -52,10 +52,10 @@ pub fn read(bytes: &[u8]) -> SetAnswer
         return SetAnswer::Refused(5);
     }
     if bytes[0] == 1 {
-        return SetAnswer::Set(ParameterSet::Voiced(indices_in(bytes), voicing_in(bytes)));
+        return SetAnswer::Set(ParameterSet::Voiced(read_indices(bytes), read_voicing(bytes)));
     }
     if is_unvoiced(bytes) {
-        return SetAnswer::Set(ParameterSet::Unvoiced(indices_in(bytes)));
+        return SetAnswer::Set(ParameterSet::Unvoiced(read_indices(bytes)));
     }
     SetAnswer::Refused(5)
 }

@@ -1,14 +1,16 @@
 // Runs the vectors of an independent implementation, from standard input, through the libraries. A vector
 // is 256 bytes: its kind, the arguments of a call, and what the call must answer.
 //
-//   vector      the bytes of a vector, and the numbers in them
+//   vector      the bytes of a vector, and the numbers and sets in them
 //   coder       packing, the pitch code and the words
 //   parameters  sets: their ranges and their bytes
 //   frames      the 54 bits of a frame, and what a frame is read as
 //   levels      gain levels and gain codes
 //   receiving   receiving, and a receiver's record
 //   in_place    receiving into a record in place
-//   codebooks   rows of a codebook, and values by them
+//   codebooks   the codebook of a vector, by a rule
+//   rows        rows of a codebook
+//   values      LSF values and magnitudes
 //   texts       codebooks in their text form
 mod codebooks;
 mod coder;
@@ -17,7 +19,9 @@ mod in_place;
 mod levels;
 mod parameters;
 mod receiving;
+mod rows;
 mod texts;
+mod values;
 mod vector;
 
 use set_bytes::SetAnswer;
@@ -32,7 +36,7 @@ fn call_agrees(r: &[u8; 256], set: ParameterSet) -> bool {
         1 => coder::pack_agrees(r, set),
         12 => parameters::ranges_agree(r, set),
         14 => receiving::history_agrees(r, set),
-        18 | 19 => codebooks::values_agree(r, set),
+        18 | 19 => values::values_agree(r, set),
         _ => receiving::receive_agrees(r, set),
     }
 }
@@ -61,7 +65,7 @@ fn agrees(r: &[u8; 256]) -> bool {
         11 => frames::logical_agrees(r),
         13 => frames::reading_agrees(r),
         15 => receiving::fresh_agrees(r),
-        16 | 17 => codebooks::rows_agree(r),
+        16 | 17 => rows::rows_agree(r),
         20 | 21 => texts::text_agrees(r),
         23 => parameters::reading_agrees(r),
         24 => parameters::writing_agrees(r),

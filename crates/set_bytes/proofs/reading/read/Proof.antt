@@ -15,32 +15,32 @@ returns c = size-owes (c .before .before .args .bytes .now) (c .if1 .taken)
 shared-slice-read-if2 : tie.Need-shared-slice-read-if2
 shared-slice-read-if2 c = search needs
 
-indices-in-requires : tie.Need-indices-in-requires
-indices-in-requires c κs = search needs
+read-indices-requires : tie.Need-read-indices-requires
+read-indices-requires c κs = search needs
 
-voicing-in-requires : tie.Need-voicing-in-requires
-voicing-in-requires c κs = search needs
+read-voicing-requires : tie.Need-read-voicing-requires
+read-voicing-requires c κs = search needs
 
 returns-2 : tie.Need-returns-2
 returns-2 c =
     let first = c .before .before in
     let size = first .before .before in
     let bytes = size .before .before .args .bytes .now in
-    ap₂ (λ (x : Indices) (v : Voicing). Set (Voiced x v)) (c .before .indices-in .ensures) (c .voicing-in .ensures)
+    ap₂ (λ (x : Indices) (v : Voicing). Set (Voiced x v)) (c .before .read-indices .ensures) (c .read-voicing .ensures)
     ∙ voiced-owes bytes (size .if1 .left) (first .if2 .taken)
 
 is-unvoiced-requires : tie.Need-is-unvoiced-requires
 is-unvoiced-requires c κs = search needs
 
-indices-in-requires-2 : tie.Need-indices-in-requires-2
-indices-in-requires-2 c κs = search needs
+read-indices-requires-2 : tie.Need-read-indices-requires-2
+read-indices-requires-2 c κs = search needs
 
 returns-3 : tie.Need-returns-3
 returns-3 c =
     let test = c .before .before in
     let first = test .before in
     let bytes = first .before .before .before .before .args .bytes .now in
-    ap (λ (x : Indices). Set (Unvoiced x)) (c .indices-in2 .ensures)
+    ap (λ (x : Indices). Set (Unvoiced x)) (c .read-indices2 .ensures)
     ∙ unvoiced-owes bytes (first .if2 .left) (sym (test .is-unvoiced .ensures) ∙ c .before .if3 .taken)
 
 returns-4 : tie.Need-returns-4
@@ -56,10 +56,10 @@ read-spec =
     (tie.spec
     returns
     shared-slice-read-if2
-    indices-in-requires
-    voicing-in-requires
+    read-indices-requires
+    read-voicing-requires
     returns-2
     is-unvoiced-requires
-    indices-in-requires-2
+    read-indices-requires-2
     returns-3
     returns-4)

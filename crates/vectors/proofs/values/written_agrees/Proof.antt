@@ -1,9 +1,9 @@
--- `vectors::codebooks::written_agrees` is safe: at most 12 numbers of the output are lent. Assumes nothing.
+-- `vectors::values::written_agrees` is safe: at most 12 numbers of the output are lent. Assumes nothing.
 use mathlib.Core.Path.{sym}
 use lib.Seq.{length-take-le}
 use borrow.Author.Needs.{needs}
-use Rattle.vectors.proofs.codebooks.written_agrees.Statement.{statement}
-use Rattle.vectors.proofs.codebooks.written_agrees.Tie as tie
+use Rattle.vectors.proofs.values.written_agrees.Statement.{statement}
+use Rattle.vectors.proofs.values.written_agrees.Tie as tie
 
 element-copy-out-count : tie.Need-element-copy-out-count
 element-copy-out-count c = search needs
