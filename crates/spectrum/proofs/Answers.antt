@@ -38,10 +38,10 @@ unless-refused zero found h = absurd (h refl)
 unless-refused (suc n) found h = refl
 
 -- a text that is not refused leaves its numbers
-written : (size : ℕ) (text : List ℕ) (held : List ℤ) → length held ≡ size → textRefusal size text size ≡ 0
+text-writes-is : (size : ℕ) (text : List ℕ) (held : List ℤ) → length held ≡ size → textRefusal size text size ≡ 0
     → textWrites size text held ≡ numbers size text
 unfolding textWrites
-written size text held h e = rw (h, e) (drop-none size (numbers size text) held (omega arith))
+text-writes-is size text held h e = rw (h, e) (drop-none size (numbers size text) held (omega arith))
 
 module _ (set : ParameterSet) (lsf magnitudes : List ℕ) (a b : TextAnswer) (m n r : ℕ)
     (ha : a ≡ textAnswer 3200 lsf 3200) (hm : m ≡ textNumber a) (hb : b ≡ textAnswer 2560 magnitudes 2560) (hn : n ≡ textNumber b)
@@ -68,4 +68,4 @@ module _ (set : ParameterSet) (lsf magnitudes : List ℕ) (a b : TextAnswer) (m 
       → ofCodebooks set (textWrites 3200 lsf xs) (textWrites 2560 magnitudes ys) ≡ ofTexts set lsf magnitudes
   texts-owe xs ys hx hy e =
       let q = first-none-only (textRefusal 3200 lsf 3200) (textRefusal 2560 magnitudes 2560) (sym number-is ∙ e) in
-      rw (sym tables-is ∙ e, written 3200 lsf xs hx (q .0), written 2560 magnitudes ys hy (q .1)) refl
+      rw (sym tables-is ∙ e, text-writes-is 3200 lsf xs hx (q .0), text-writes-is 2560 magnitudes ys hy (q .1)) refl

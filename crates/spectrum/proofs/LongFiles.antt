@@ -35,8 +35,8 @@ lines-le (suc n) text h =
     omega (arith, e, number-le (lineOf text) (q .1), lines-le n (afterLine text) (p .1))
 
 -- a text as long as the buffer
-pub long-refused : (size : ℕ) (text : List ℕ) → size ≤ 3200 → 65536 ≤ length text → isLines size text ≡ false
-long-refused size text s l = go (isLines size text) refl
+pub long-text-refused : (size : ℕ) (text : List ℕ) → size ≤ 3200 → 65536 ≤ length text → isLines size text ≡ false
+long-text-refused size text s l = go (isLines size text) refl
   where
     go : (t : Bool) → isLines size text ≡ t → t ≡ false
     go true e = absurd (omega (arith, lines-le size text e))
