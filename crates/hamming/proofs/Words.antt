@@ -37,7 +37,7 @@ module _ (n : ℕ) (l : 6 ≤ n) (m : n ≤ 8) where
   pub data-is : (w : ℕ) → dataOf n (bits n w) ≡ bits (dataBits n) (w / 2 ^ checkBits n)
   data-is w = ap (λ (k : ℕ). take (dataBits n) (bits k w)) (sym split-length) ∙ take-bits (dataBits n) (checkBits n) w
 
-  -- it fits the data bits
+  -- the quotient has no more bits than the data
   data-lt : (w : ℕ) → w < 2 ^ n → w / 2 ^ checkBits n < 2 ^ dataBits n
   data-lt w h = shr-lt (dataBits n) (checkBits n) (subst (λ (k : ℕ). w < 2 ^ k) (sym split-length) h)
 
@@ -62,7 +62,7 @@ module _ (n : ℕ) (l : 6 ≤ n) (m : n ≤ 8) where
       eqb→eq _ _ (words-at (dataBits n) (λ d. eqb (length (parityOf n d)) (checkBits n))
       (lengths-at (λ n. words (dataBits n) (λ d. eqb (length (parityOf n d)) (checkBits n))) tt n l m) d h)
 
-  -- its bits are the parity of the word's data
+  -- the bits of the expected parity
   expected-bits : (w : ℕ) → bits (checkBits n) (expected w) ≡ parityOf n (dataOf n (bits n w))
   expected-bits w =
       let d : List Bool = bits (dataBits n) (w / 2 ^ checkBits n) in
