@@ -56,14 +56,14 @@ fn repeat(rec: Record, sync: bool) -> Received
     requires { ⌜ valid rec ≡ true ⌝ }
     ensures { λ r. ⌜ r ≡ repeated rec sync ⌝ }
 {
-    let set = rec.last;
+    let last = rec.last;
     let level = level_of(rec.g2);
     let next = after_repeat(rec);
     let kinds = next.kinds;
     Received {
         answer: ReceiveAnswer::Result(FrameResult {
             kind: Kind::Repeat,
-            set,
+            set: last,
             first: level,
             second: level,
             mute: is_muted(kinds),
