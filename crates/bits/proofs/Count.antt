@@ -22,10 +22,10 @@ ones-append (true ∷ l) m = ap suc (ones-append l m) ∙ sym (suc-add (ones l) 
 ones-append (false ∷ l) m = ones-append l m
 
 -- flips keep the length
-pub length-⊕ : (l m : List Bool) → length (l ⊕ m) ≡ length l
-length-⊕ [] m = refl
-length-⊕ (b ∷ l) [] = refl
-length-⊕ (b ∷ l) (e ∷ m) = ap suc (length-⊕ l m)
+pub ⊕-length : (l m : List Bool) → length (l ⊕ m) ≡ length l
+⊕-length [] m = refl
+⊕-length (b ∷ l) [] = refl
+⊕-length (b ∷ l) (e ∷ m) = ap suc (⊕-length l m)
 
 -- a part of a sequence in which no bit is set
 none-set : (g : ℕ → Bool) (i n : ℕ) → ((j : ℕ) → i ≤ j → j < i + n → g j ≡ true → ⊥) → ones (cut g i n) ≡ 0

@@ -10,9 +10,9 @@ use lib.Seq.{drop-cons}
 use Rattle.bits.specs.Bits.{cut}
 
 -- a cut of n has n entries
-pub length-cut : {A : Type 0} (g : ℕ → A) (i n : ℕ) → length (cut g i n) ≡ n
-length-cut g i zero = refl
-length-cut g i (suc n) = ap suc (length-cut g (suc i) n)
+pub cut-length : {A : Type 0} (g : ℕ → A) (i n : ℕ) → length (cut g i n) ≡ n
+cut-length g i zero = refl
+cut-length g i (suc n) = ap suc (cut-length g (suc i) n)
 
 -- entry j of a cut from i is the sequence at i + j
 pub cut-at : {A : Type 0} (d : A) (g : ℕ → A) (i n j : ℕ) → j < n → getD (cut g i n) j d ≡ g (i + j)

@@ -13,9 +13,9 @@ use Rattle.bits.specs.Bits.{bitNum, value, bit, bits}
 use Rattle.bits.proofs.Value.{value-lt-at, value-inj}
 
 -- how many bits a number is cut into
-pub length-bits : (k n : ℕ) → length (bits k n) ≡ k
-length-bits zero n = refl
-length-bits (suc k) n = ap suc (length-bits k n)
+pub bits-length : (k n : ℕ) → length (bits k n) ≡ k
+bits-length zero n = refl
+bits-length (suc k) n = ap suc (bits-length k n)
 
 -- a bit's number is read back
 bit-num : (n : ℕ) → bitNum (eqb (n % 2) 1) ≡ n % 2
@@ -32,7 +32,7 @@ value-bits-mod zero n = omega arith
 value-bits-mod (suc k) n =
     let e : suc k ≡ 1 + k = omega arith in
     ap₂ (λ (x y : ℕ). x * 2 ^ length (bits k n) + y) (bit-num (n / 2 ^ k)) (value-bits-mod k n)
-    ∙ ap (λ (m : ℕ). n / 2 ^ k % 2 * 2 ^ m + n % 2 ^ k) (length-bits k n)
+    ∙ ap (λ (m : ℕ). n / 2 ^ k % 2 * 2 ^ m + n % 2 ^ k) (bits-length k n)
     ∙ sym (mod-pow-add n 1 k)
     ∙ ap (λ (m : ℕ). n % 2 ^ m) (sym e)
 
@@ -42,7 +42,7 @@ value-bits k n h = value-bits-mod k n ∙ mod-eq-of-lt h
 
 -- bits come back from their number
 pub bits-value : (n : ℕ) (l : List Bool) → length l ≡ n → bits n (value l) ≡ l
-bits-value n l e = value-inj (bits n (value l)) l (length-bits n (value l) ∙ sym e) (value-bits n (value l) (value-lt-at n l e))
+bits-value n l e = value-inj (bits n (value l)) l (bits-length n (value l) ∙ sym e) (value-bits n (value l) (value-lt-at n l e))
 
 -- entry j of a number's n bits is its bit n - 1 - j
 pub bits-at : (n j w : ℕ) → j < n → getD (bits n w) j false ≡ bit (n - suc j) w
@@ -68,4 +68,4 @@ drop-bits (suc a) b n = ap (λ (k : ℕ). drop (suc a) (bits k n)) (suc-add a b)
 
 -- they do not see what stands above them
 pub bits-mod : (k n : ℕ) → bits k (n % 2 ^ k) ≡ bits k n
-bits-mod k n = value-inj _ _ (length-bits k _ ∙ sym (length-bits k n)) (value-bits k (n % 2 ^ k) (mod-lt n (pow-pos k)) ∙ sym (value-bits-mod k n))
+bits-mod k n = value-inj _ _ (bits-length k _ ∙ sym (bits-length k n)) (value-bits k (n % 2 ^ k) (mod-lt n (pow-pos k)) ∙ sym (value-bits-mod k n))

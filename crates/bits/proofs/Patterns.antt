@@ -33,12 +33,12 @@ patterns-at (suc k) (suc n) f t (true ∷ l) e h =
     (le-of-suc-le-suc h)
 
 -- a test at every list of n bits
-abbrev pub words : ℕ → (List Bool → Bool) → Bool
-words n f = patterns n n f
+abbrev pub allPatterns : ℕ → (List Bool → Bool) → Bool
+allPatterns n f = patterns n n f
 
 -- it holds at each of them
-pub words-at : (n : ℕ) (f : List Bool → Bool) → T (words n f) → (l : List Bool) → length l ≡ n → T (f l)
-words-at n f t l e = patterns-at n n f t l e (omega (arith, ones-le l))
+pub all-patterns-at : (n : ℕ) (f : List Bool → Bool) → T (allPatterns n f) → (l : List Bool) → length l ≡ n → T (f l)
+all-patterns-at n f t l e = patterns-at n n f t l e (omega (arith, ones-le l))
 
 beq-eq : (a b : Bool) → T (Bool·beq a b) → a ≡ b
 beq-eq true true t = refl

@@ -22,7 +22,7 @@ use Rattle.receiver.specs.declared.ReceiveAnswer.the-variants.{Result}
 use Rattle.receiver.specs.declared.Received.{Received}
 use Rattle.receiver.proofs.Results.{resultIn, step-answers, accepted-valid}
 use Rattle.damage.proofs.Arrival.{packed-accepted, arrived-taken}
-use Rattle.calls.specs.Model.{Answer, done, Outcome, outcomes, PackKind, ReceiveKind, outcomeOf, receiveModel, receiveKind}
+use Rattle.calls.specs.Model.{done, Outcome, outcomes, PackKind, ReceiveKind, outcomeOf, receiveModel, receiveKind}
 use Rattle.calls.specs.Calls.{sent}
 use Rattle.calls.specs.Frames.{Row, setOf}
 use Rattle.calls.proofs.Rows.{Known, Chain, got}

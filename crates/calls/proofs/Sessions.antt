@@ -16,7 +16,7 @@ use Rattle.records.specs.Records.{valid}
 use Rattle.records.specs.declared.Record.{Record}
 use Rattle.calls.specs.Model.{PackArguments, packKind, receiveKind}
 use Rattle.calls.specs.Calls.{PackCall, packCallRefusal, packLeft, sent, PackStep, PackRun, ReceiveCall, unrefused, channel}
-use Rattle.calls.specs.Script.{Wish, nexts, Script, Had}
+use Rattle.calls.specs.Script.{Wish, Script, Had}
 use Rattle.calls.specs.CodeCalls.{packCall}
 use Rattle.calls.proofs.Runs.{run-every, run-unrefused, run-weaker, unrefused-map}
 use Rattle.calls.proofs.Steps.{pack-sent, pack-leaves}

@@ -14,7 +14,7 @@ use Rattle.pitch.proofs.Damage.{unvoiced-stays, unvoiced-ones}
 use Rattle.hamming.specs.Word.{decode}
 use Rattle.hamming.specs.declared.Decoded.{Decoded}
 use Rattle.hamming.specs.declared.Decoded.the-variants as word
-use Rattle.hamming.proofs.Repairs.{repair, double-erases}
+use Rattle.hamming.proofs.Repairs.{decode-back, double-erases}
 use Rattle.frame.specs.Layout.{dataA, dataB, dataC, dataD, words, others, unvoicedWords, logical, logicalOf}
 use Rattle.order.specs.Fields.{wordA, wordB, wordC, wordD, pitchBits}
 use Rattle.reading.specs.Reading.{pitchRepaired, fromWords, byClass, read}
@@ -55,19 +55,19 @@ module _ (x : Indices) (sync : Bool) (fl : ℕ → Bool) where
   module _ (k : Correctable fl) where
     word-a : decode 8 (wordA got) ≡ word.Read (value (dataA x)) (ones (wordA fl))
     unfolding words others unvoicedWords logical
-    word-a = repair 8 (lit≤ tt) (lit≤ tt) (dataA x) (wordA fl) refl refl (k .a)
+    word-a = decode-back 8 (lit≤ tt) (lit≤ tt) (dataA x) (wordA fl) refl refl (k .a)
 
     word-b : decode 6 (wordB got) ≡ word.Read (value (dataB x)) (ones (wordB fl))
     unfolding words others unvoicedWords logical
-    word-b = repair 6 (lit≤ tt) (lit≤ tt) (dataB x) (wordB fl) refl refl (k .b)
+    word-b = decode-back 6 (lit≤ tt) (lit≤ tt) (dataB x) (wordB fl) refl refl (k .b)
 
     word-c : decode 7 (wordC got) ≡ word.Read (value (dataC x)) (ones (wordC fl))
     unfolding words others unvoicedWords logical
-    word-c = repair 7 (lit≤ tt) (lit≤ tt) (dataC x) (wordC fl) refl refl (k .c)
+    word-c = decode-back 7 (lit≤ tt) (lit≤ tt) (dataC x) (wordC fl) refl refl (k .c)
 
     word-d : decode 7 (wordD got) ≡ word.Read (value (dataD x)) (ones (wordD fl))
     unfolding words others unvoicedWords logical
-    word-d = repair 7 (lit≤ tt) (lit≤ tt) (dataD x) (wordD fl) refl refl (k .d)
+    word-d = decode-back 7 (lit≤ tt) (lit≤ tt) (dataD x) (wordD fl) refl refl (k .d)
 
     pitch-count : pitchRepaired (pitchBits got) ≡ ones (pitchBits fl)
     unfolding words others unvoicedWords logical

@@ -11,7 +11,7 @@ use lib.ListN.{length}
 use borrow.Author.Tests.{eq-eqb}
 use Rattle.bits.specs.Bits.{_⊕_, ones, value}
 use Rattle.bits.proofs.Every.{and-left, and-right, implies, implies-at}
-use Rattle.bits.proofs.Patterns.{patterns, patterns-at, words, words-at}
+use Rattle.bits.proofs.Patterns.{patterns, patterns-at, allPatterns, all-patterns-at}
 use Rattle.hamming.specs.Word.{dataBits, encode, fixOf, decode}
 use Rattle.hamming.specs.declared.Decoded.{Decoded}
 use Rattle.hamming.specs.declared.Decoded.the-variants.{Read, Erased}
@@ -36,15 +36,15 @@ repairs : ℕ → List Bool → List Bool → Bool
 repairs n d e = sameRead (decode n (encode n d ⊕ e)) (Read (value d) (ones e))
 
 allRepairs : ℕ → Bool
-allRepairs n = words (dataBits n) (λ d. patterns 1 n (repairs n d))
+allRepairs n = allPatterns (dataBits n) (λ d. patterns 1 n (repairs n d))
 
 -- no flip or one: the data as sent, and the flip counted
-pub repair : (n : ℕ) → 6 ≤ n → n ≤ 8 → (d e : List Bool) → length d ≡ dataBits n → length e ≡ n → ones e ≤ 1
+pub decode-back : (n : ℕ) → 6 ≤ n → n ≤ 8 → (d e : List Bool) → length d ≡ dataBits n → length e ≡ n → ones e ≤ 1
     → decode n (encode n d ⊕ e) ≡ Read (value d) (ones e)
 unfolding repairs allRepairs fixOf decode
-repair n l m d e hd he h =
+decode-back n l m d e hd he h =
     sameRead-eq (decode n (encode n d ⊕ e)) (Read (value d) (ones e))
-    (patterns-at 1 n (repairs n d) (words-at (dataBits n) (λ d. patterns 1 n (repairs n d)) (lengths-at allRepairs tt n l m) d hd) e he h)
+    (patterns-at 1 n (repairs n d) (all-patterns-at (dataBits n) (λ d. patterns 1 n (repairs n d)) (lengths-at allRepairs tt n l m) d hd) e he h)
 
 -- the data d with two flips in the word of eight bits are erased
 erases : List Bool → List Bool → Bool
@@ -55,4 +55,4 @@ pub double-erases : (d e : List Bool) → length d ≡ 4 → length e ≡ 8 → 
 unfolding erases fixOf decode
 double-erases d e hd he h =
     sameRead-eq (decode 8 (encode 8 d ⊕ e)) Erased
-    (implies-at (eqb (ones e) 2) _ (patterns-at 2 8 (erases d) (words-at 4 (λ d. patterns 2 8 (erases d)) tt d hd) e he (le-of-eq h)) (eq-eqb (ones e) 2 h))
+    (implies-at (eqb (ones e) 2) _ (patterns-at 2 8 (erases d) (all-patterns-at 4 (λ d. patterns 2 8 (erases d)) tt d hd) e he (le-of-eq h)) (eq-eqb (ones e) 2 h))

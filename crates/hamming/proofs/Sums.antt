@@ -13,7 +13,7 @@ use lib.Pow.{pow-lt}
 use Rattle.bits.specs.Bits.{_⊻_, _⊕_, value, bits, same}
 use Rattle.bits.proofs.Every.{every, every-at}
 use Rattle.bits.proofs.Patterns.{same-eq}
-use Rattle.bits.proofs.Digits.{length-bits, value-bits}
+use Rattle.bits.proofs.Digits.{bits-length, value-bits}
 use Rattle.hamming.specs.Word.{flipAt}
 use Rattle.hamming.proofs.Lengths.{lengths-at}
 
@@ -60,5 +60,5 @@ flip-is n k w l m hk hw =
     let weight : ℕ = 2 ^ (n - 1 - k) in
     let below : weight < 2 ^ n = pow-lt {i = n - 1 - k} {j = n} (omega arith) in
     let sum = xor-bits n w weight ∙ ap (λ (e : List Bool). bits n w ⊕ e) (weight-bits n k l m hk) in
-    let flip = flip-sum k (bits n w) ∙ ap (λ (j : ℕ). bits n w ⊕ flipAt k (replicate j false)) (length-bits n w) in
+    let flip = flip-sum k (bits n w) ∙ ap (λ (j : ℕ). bits n w ⊕ flipAt k (replicate j false)) (bits-length n w) in
     sym (value-bits n (bitXor w weight) (xor-lt n w weight hw below)) ∙ ap value (sum ∙ sym flip)

@@ -10,7 +10,7 @@ use lib.ListN.{length}
 use borrow.Author.Tests.{eq-eqb, ne-eqb}
 use Rattle.bits.specs.Bits.{ones, same}
 use Rattle.bits.proofs.Every.{every, every-at}
-use Rattle.bits.proofs.Patterns.{words, words-at}
+use Rattle.bits.proofs.Patterns.{allPatterns, all-patterns-at}
 use Rattle.hamming.specs.Word.{checkBits, column, parityOf, Fix, stand, flip, erase, fixOf}
 use Rattle.hamming.proofs.Lengths.{lengths-at}
 
@@ -62,7 +62,7 @@ explained n z = explains n z (fixOf n z)
 -- every syndrome of every word: it stands for zero or the spare's column in word B, a flip for that bit's column, an erasure for an even one in word A
 pub fix-explains : (n : ℕ) → 6 ≤ n → n ≤ 8 → (z : List Bool) → length z ≡ checkBits n → T (explains n z (fixOf n z))
 unfolding explained fixOf
-fix-explains n l m z h = words-at (checkBits n) (explained n) (lengths-at (λ n. words (checkBits n) (explained n)) tt n l m) z h
+fix-explains n l m z h = all-patterns-at (checkBits n) (explained n) (lengths-at (λ n. allPatterns (checkBits n) (explained n)) tt n l m) z h
 
 -- the spare's column is in word B no bit's own: the data stand, nothing repaired
 pub spare-stands : fixOf 6 spareColumn ≡ stand

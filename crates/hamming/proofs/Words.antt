@@ -10,10 +10,10 @@ use lib.Bits.{bitXor}
 use lib.ListN.{length, take, drop}
 use lib.Pow.{pow-pos, pow-mono, shr-lt}
 use Rattle.bits.specs.Bits.{_⊕_, value, bits}
-use Rattle.bits.proofs.Count.{length-⊕}
-use Rattle.bits.proofs.Patterns.{words, words-at}
+use Rattle.bits.proofs.Count.{⊕-length}
+use Rattle.bits.proofs.Patterns.{allPatterns, all-patterns-at}
 use Rattle.bits.proofs.Value.{value-lt-at}
-use Rattle.bits.proofs.Digits.{value-bits, bits-value, bits-mod, take-bits, drop-bits, length-bits}
+use Rattle.bits.proofs.Digits.{value-bits, bits-value, bits-mod, take-bits, drop-bits, bits-length}
 use Rattle.hamming.specs.Word.{checkBits, dataBits, parityOf, dataOf, syndrome, flipAt}
 use Rattle.hamming.proofs.Sums.{xor-bits}
 use Rattle.hamming.proofs.Lengths.{lengths-at}
@@ -48,7 +48,7 @@ module _ (n : ℕ) (l : 6 ≤ n) (m : n ≤ 8) where
   -- the data after a flip are the quotient of the flipped word
   pub flipped-data-value : (k w : ℕ) → value (dataOf n (flipAt k (bits n w))) ≡ value (flipAt k (bits n w)) / 2 ^ checkBits n
   flipped-data-value k w =
-      let e : length (flipAt k (bits n w)) ≡ n = flip-length k (bits n w) ∙ length-bits n w in
+      let e : length (flipAt k (bits n w)) ≡ n = flip-length k (bits n w) ∙ bits-length n w in
       ap (λ (x : List Bool). value (dataOf n x)) (sym (bits-value n (flipAt k (bits n w)) e)) ∙ data-value (value (flipAt k (bits n w)))
       (value-lt-at n (flipAt k (bits n w)) e)
 
@@ -59,14 +59,14 @@ module _ (n : ℕ) (l : 6 ≤ n) (m : n ≤ 8) where
   -- as many parity bits as a word has room for
   parity-length : (d : List Bool) → length d ≡ dataBits n → length (parityOf n d) ≡ checkBits n
   parity-length d h =
-      eqb→eq _ _ (words-at (dataBits n) (λ d. eqb (length (parityOf n d)) (checkBits n))
-      (lengths-at (λ n. words (dataBits n) (λ d. eqb (length (parityOf n d)) (checkBits n))) tt n l m) d h)
+      eqb→eq _ _ (all-patterns-at (dataBits n) (λ d. eqb (length (parityOf n d)) (checkBits n))
+      (lengths-at (λ n. allPatterns (dataBits n) (λ d. eqb (length (parityOf n d)) (checkBits n))) tt n l m) d h)
 
   -- the bits of the expected parity
   expected-bits : (w : ℕ) → bits (checkBits n) (expected w) ≡ parityOf n (dataOf n (bits n w))
   expected-bits w =
       let d : List Bool = bits (dataBits n) (w / 2 ^ checkBits n) in
-      bits-value (checkBits n) (parityOf n d) (parity-length d (length-bits (dataBits n) (w / 2 ^ checkBits n))) ∙ ap (parityOf n) (sym (data-is w))
+      bits-value (checkBits n) (parityOf n d) (parity-length d (bits-length (dataBits n) (w / 2 ^ checkBits n))) ∙ ap (parityOf n) (sym (data-is w))
 
   -- parity as a number is below 16
   check-lt : (x : ℕ) → x < 2 ^ checkBits n → x < 16
@@ -76,7 +76,7 @@ module _ (n : ℕ) (l : 6 ≤ n) (m : n ≤ 8) where
   pub expected-lt : (w : ℕ) → expected w < 16
   expected-lt w =
       let d : List Bool = bits (dataBits n) (w / 2 ^ checkBits n) in
-      check-lt (expected w) (value-lt-at (checkBits n) (parityOf n d) (parity-length d (length-bits (dataBits n) (w / 2 ^ checkBits n))))
+      check-lt (expected w) (value-lt-at (checkBits n) (parityOf n d) (parity-length d (bits-length (dataBits n) (w / 2 ^ checkBits n))))
 
   -- and what is received as parity
   pub received-lt : (w : ℕ) → w % 2 ^ checkBits n < 16
@@ -88,7 +88,7 @@ module _ (n : ℕ) (l : 6 ≤ n) (m : n ≤ 8) where
 
   -- a syndrome has as many bits as the parity
   pub syndrome-length : (w : ℕ) → length (syndrome n (bits n w)) ≡ checkBits n
-  syndrome-length w = length-⊕ (drop (dataBits n) (bits n w)) _ ∙ ap length (received-bits w) ∙ length-bits (checkBits n) w
+  syndrome-length w = ⊕-length (drop (dataBits n) (bits n w)) _ ∙ ap length (received-bits w) ∙ bits-length (checkBits n) w
 
   -- the syndrome is received parity plus that of the data
   pub syndrome-is : (w : ℕ) → bits (checkBits n) (bitXor (w % 2 ^ checkBits n) (expected w)) ≡ syndrome n (bits n w)

@@ -9,7 +9,7 @@ use native.Mathlib.Omega.{arith}
 use lib.ListN.{length, getD}
 use Rattle.bits.specs.Bits.{value, bits, cut}
 use Rattle.bits.proofs.Cut.{cut-at, cut-ext, cut-getD, cut-shift}
-use Rattle.bits.proofs.Digits.{value-bits, value-bits-mod, bits-value, length-bits}
+use Rattle.bits.proofs.Digits.{value-bits, value-bits-mod, bits-value, bits-length}
 use Rattle.order.specs.Order.{byteOf, bytesOf, bitAt, padding}
 
 -- the bit at place t of the bytes of a sequence is the sequence at t
@@ -31,7 +31,7 @@ unfolding bitAt
 byte-back bytes i h =
     ap value (cut-ext (bitAt bytes) (λ t. getD (bits 8 (getD bytes i 0)) (t % 8) false) (8 * i) 8
     (λ t a b. ap (λ (k : ℕ). getD (bits 8 (getD bytes k 0)) (t % 8) false) (omega arith)))
-    ∙ ap value (whole (bits 8 (getD bytes i 0)) (length-bits 8 (getD bytes i 0)))
+    ∙ ap value (whole (bits 8 (getD bytes i 0)) (bits-length 8 (getD bytes i 0)))
     ∙ value-bits 8 (getD bytes i 0) h
   where
     whole : (l : List Bool) → length l ≡ 8 → cut (λ t. getD l (t % 8) false) (8 * i) 8 ≡ l

@@ -10,7 +10,7 @@ use lib.Dec.{ltb, lit<, lit≤}
 use lib.ListN.{length, getD}
 use borrow.Author.Tests.{lt-ltb, le-ltb, ltb-true, ltb-false}
 use Rattle.bits.specs.Bits.{_⊻_}
-use Rattle.bits.proofs.Cut.{length-cut, cut-at}
+use Rattle.bits.proofs.Cut.{cut-length, cut-at}
 use Rattle.order.specs.Order.{Order, placeOf, placed, byteOf, frameOf, bitAt, logicalBit, padding, through}
 use Rattle.order.proofs.Places.{entry-back, place-lt, place-back}
 use Rattle.order.proofs.Bytes.{place-bit, bytes-ext, bytes-back}
@@ -42,7 +42,7 @@ module _ (ord : List ℕ) (g : ℕ → Bool) where
   -- a frame has seven bytes
   pub frame-length : length (frameOf ord g) ≡ 7
   unfolding frameOf
-  frame-length = length-cut (byteOf (placed ord g)) 0 7
+  frame-length = cut-length (byteOf (placed ord g)) 0 7
 
   -- its padding is clear
   pub frame-padding : padding (frameOf ord g) ≡ false ∷ false ∷ []

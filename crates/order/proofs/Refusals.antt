@@ -10,7 +10,7 @@ use lib.ListN.{length, getD}
 use borrow.Author.Tests.{eq-eqb, eqb-true}
 use Rattle.bits.specs.Bits.{_⊻_, ones}
 use Rattle.bits.specs.Refusals.{firstRefusal}
-use Rattle.bits.proofs.Cut.{length-cut}
+use Rattle.bits.proofs.Cut.{cut-length}
 use Rattle.order.specs.Order.{Order, byteOf, frameOf, bitAt, logicalBit, padding, frameRefusal, through}
 use Rattle.order.proofs.Bytes.{place-bit}
 use Rattle.order.proofs.Frames.{frame-length, frame-padding, frame-back}
@@ -47,7 +47,7 @@ through-padding fl bytes =
 pub through-taken : (fl : ℕ → Bool) (bytes : List ℕ) → frameRefusal bytes ≡ 0 → frameRefusal (through fl bytes) ≡ 0
 unfolding through
 through-taken fl bytes r =
-    frame-taken (through fl bytes) (length-cut (byteOf (λ t. bitAt bytes t ⊻ (ltb t 54 && fl t))) 0 7) (through-padding fl bytes ∙ frame-taken-only bytes r .1)
+    frame-taken (through fl bytes) (cut-length (byteOf (λ t. bitAt bytes t ⊻ (ltb t 54 && fl t))) 0 7) (through-padding fl bytes ∙ frame-taken-only bytes r .1)
 
 -- a frame that is taken is the frame of its logical bits
 pub taken-frame-back : (ord : List ℕ) → Order ord → (bytes : List ℕ) → ((i : ℕ) → i < 7 → getD bytes i 0 < 256) → frameRefusal bytes ≡ 0

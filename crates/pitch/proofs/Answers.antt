@@ -7,11 +7,11 @@ use Rattle.bits.specs.Bits.{bits}
 use Rattle.pitch.specs.Pitch.{classOf, codeOf, classAnswer, codeAnswer, classIn, codeIn}
 
 -- a code's answer holds its class
-pub class-in : (c : ℕ) → c < 128 → classIn (classAnswer c) ≡ classOf (bits 7 c)
+pub class-in-is : (c : ℕ) → c < 128 → classIn (classAnswer c) ≡ classOf (bits 7 c)
 unfolding classAnswer
-class-in c h = simp (lt-ltb c 128 h)
+class-in-is c h = simp (lt-ltb c 128 h)
 
 -- an index's answer holds its code
-pub code-in : (i : ℕ) → i < 99 → codeIn (codeAnswer i) ≡ codeOf i
+pub code-in-is : (i : ℕ) → i < 99 → codeIn (codeAnswer i) ≡ codeOf i
 unfolding codeAnswer
-code-in i h = simp (lt-ltb i 99 h)
+code-in-is i h = simp (lt-ltb i 99 h)

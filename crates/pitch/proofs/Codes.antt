@@ -8,7 +8,7 @@ use lib.Dec.{T, eqb, eqb→eq, ltb, ltb→lt}
 use lib.ListN.{length}
 use Rattle.bits.specs.Bits.{bits}
 use Rattle.bits.proofs.Every.{and-left, and-right, implies, implies-at, every-at}
-use Rattle.bits.proofs.Patterns.{words-at}
+use Rattle.bits.proofs.Patterns.{all-patterns-at}
 use Rattle.pitch.specs.Pitch.{index, isVoiced, classOf, voicedFrom, codeOf}
 use Rattle.pitch.specs.declared.PitchClass.{PitchClass}
 use Rattle.pitch.specs.declared.PitchClass.the-variants.{Unvoiced, Erased, Voiced}
@@ -62,6 +62,6 @@ fits : List Bool → Bool
 fits p = indexFits (classOf p)
 
 -- so has the class of any seven bits
-pub index-lt : (p : List Bool) → length p ≡ 7 → T (indexFits (classOf p))
+pub class-index-fits : (p : List Bool) → length p ≡ 7 → T (indexFits (classOf p))
 unfolding fits index classOf
-index-lt = words-at 7 fits tt
+class-index-fits = all-patterns-at 7 fits tt

@@ -1,4 +1,4 @@
-pub mod ByOnes
+pub mod Classes
 pub mod Codes
 pub mod Damage
 pub mod Standard

@@ -1,7 +1,7 @@
 -- Whatever logical bits are read as is in range, so a receiver's record can hold it.
 -- Assumes nothing.
-use mathlib.Core.Path.{_≡_, refl}
-use mathlib.Core.Bool.{Bool, true}
+use mathlib.Core.Path.{refl}
+use mathlib.Core.Bool.{Bool}
 use mathlib.Core.List.{_++_}
 use Prim.Native.Nat.{ℕ, _<_}
 use native.Mathlib.Omega.{arith}
@@ -12,16 +12,15 @@ use Rattle.bits.proofs.Value.{value-lt-at}
 use Rattle.pitch.specs.Pitch.{classOf}
 use Rattle.pitch.specs.declared.PitchClass.{PitchClass}
 use Rattle.pitch.specs.declared.PitchClass.the-variants as class
-use Rattle.pitch.proofs.Codes.{indexFits, index-lt}
+use Rattle.pitch.proofs.Codes.{indexFits, class-index-fits}
 use Rattle.hamming.specs.Word.{decode}
 use Rattle.hamming.proofs.Bounds.{decode-bounded}
 use Rattle.hamming.specs.declared.Decoded.{Decoded}
 use Rattle.hamming.specs.declared.Decoded.the-variants as word
 use Rattle.order.specs.Fields.{wordA, wordB, wordC, wordD, pitchBits}
-use Rattle.sets.specs.Sets.{indicesFit, voicingFits, inRange}
+use Rattle.sets.specs.Sets.{indicesFit, voicingFits}
 use Rattle.reading.specs.Reading.{indicesOf, voicingOf, fromWords, byClass, read, readingFits}
-use Rattle.reading.specs.declared.Reading.{Reading}
-use Rattle.reading.specs.declared.Reading.the-variants.{Accepted, Erased}
+use Rattle.reading.specs.declared.Reading.the-variants.{Erased}
 use Rattle.sets.proofs.Ranges.{index-fits, voicing-fits}
 use Rattle.reading.proofs.Outcomes.{Outcomes}
 
@@ -71,4 +70,4 @@ module _ (g : ℕ → Bool) where
   -- what is read is in range
   pub read-fits : T (readingFits (read g))
   unfolding read
-  read-fits = class-fits (classOf (pitchBits g)) (index-lt (pitchBits g) refl)
+  read-fits = class-fits (classOf (pitchBits g)) (class-index-fits (pitchBits g) refl)

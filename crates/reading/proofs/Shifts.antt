@@ -8,7 +8,7 @@ use native.Mathlib.Nat.{mod-eq-of-lt, one-mul}
 use lib.Pow.{pow-lt}
 use Rattle.bits.specs.Bits.{value, bits, cut, carried}
 use Rattle.bits.proofs.Value.{value-join}
-use Rattle.bits.proofs.Cut.{length-cut}
+use Rattle.bits.proofs.Cut.{cut-length}
 use Rattle.bits.proofs.Digits.{bits-value}
 use Rattle.bits.proofs.Numbers.{carried-part}
 
@@ -23,7 +23,7 @@ part-is a k c number e = sym (carried-part a k c number) ∙ ap (λ (n : ℕ). v
 module _ (g : ℕ → Bool) where
   -- the bits of the number that a part stands for are that part
   pub bits-back : (a k x : ℕ) → x ≡ value (cut g a k) → bits k x ≡ cut g a k
-  bits-back a k x e = ap (bits k) e ∙ bits-value k (cut g a k) (length-cut g a k)
+  bits-back a k x e = ap (bits k) e ∙ bits-value k (cut g a k) (cut-length g a k)
 
   -- the Fourier index from its three parts
   pub fourier-is : (x y z : ℕ) → x ≡ value (cut g 11 3) → y ≡ value (cut g 18 3) → z ≡ value (cut g 25 2)

@@ -1,6 +1,5 @@
 -- When a record is valid: a record with every field in its range is, the fresh one too, and a valid one has its G2 in range.
 -- Assumes nothing.
-use mathlib.Core.Path.{_≡_}
 use Prim.Native.Nat.{_<_}
 use lib.Dec.{T, ltb, lt→ltb, ltb→lt}
 use Rattle.bits.proofs.Every.{and-both, and-right}

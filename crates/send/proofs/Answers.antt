@@ -11,7 +11,7 @@ use borrow.Rule.Slice.PartMut.{midOf, putMid}
 use Rattle.order.specs.Order.{defaultOrder}
 use Rattle.sets.specs.Sets.{sendable}
 use Rattle.sets.specs.declared.ParameterSet.{ParameterSet}
-use Rattle.set_bytes.specs.SetBytes.{setIn, isSet, readAnswer}
+use Rattle.set_bytes.specs.SetBytes.{setIn, readAnswer}
 use Rattle.set_bytes.specs.declared.SetAnswer.{SetAnswer}
 use Rattle.set_bytes.specs.declared.SetAnswer.the-variants as form
 use Rattle.set_bytes.proofs.SetBytes.{answer-taken, answer-refused}

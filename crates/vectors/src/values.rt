@@ -7,8 +7,8 @@ use crate::codebooks::numbers_of;
 use crate::codebooks::size_of;
 use crate::vector::count;
 use crate::vector::refused;
-use sets::ParameterSet;
 use codebook_values::ValuesAnswer;
+use sets::ParameterSet;
 
 // Values of a set by a codebook: LSF values in kind 18, magnitudes in kind 19.
 fn values(kind: u8, set: ParameterSet, codebook: &[i64], out: &mut [i64]) -> ValuesAnswer {

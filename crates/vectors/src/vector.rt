@@ -1,6 +1,5 @@
 // The 256 bytes of a vector, and the numbers and sets that stand in them.
 use sets::ParameterSet;
-ghost use mathlib.Core.Path.{_≡_};
 ghost use Prim.Native.Nat.{_+_, _≤_, _<_};
 ghost use lib.ListN.{length};
 

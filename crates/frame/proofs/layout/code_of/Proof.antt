@@ -2,7 +2,7 @@
 use mathlib.Core.Path.{_≡_, sym, ap, _∙_}
 use borrow.Author.Needs.{needs}
 use Rattle.pitch.specs.Pitch.{codeOf, codeIn}
-use Rattle.pitch.proofs.Answers.{code-in}
+use Rattle.pitch.proofs.Answers.{code-in-is}
 use Rattle.frame.proofs.layout.code_of.Statement.{statement}
 use Rattle.frame.proofs.layout.code_of.Tie as tie
 
@@ -17,7 +17,7 @@ enum-told c = search needs
 
 -- the code in the call's answer is that of the index
 answered : (c : tie.After-encode) → codeIn (c .encode .result) ≡ codeOf (c .before .args .index)
-answered c = ap codeIn (c .encode .ensures) ∙ code-in (c .before .args .index) (c .before .pre)
+answered c = ap codeIn (c .encode .ensures) ∙ code-in-is (c .before .args .index) (c .before .pre)
 
 returns : tie.Need-returns
 returns c = ap codeIn (sym (c .before .code .given .1)) ∙ answered (c .before .before .before)

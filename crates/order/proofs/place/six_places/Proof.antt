@@ -1,9 +1,8 @@
 -- `order::place::six_places` meets its contract: after b turns b places are filled. Assumes nothing.
-use mathlib.Core.Path.{_≡_, refl, sym, ap, _∙_}
+use mathlib.Core.Path.{sym, ap, _∙_}
 use mathlib.Core.Bool.{Bool}
-use Prim.Native.Nat.{ℕ, _+_, _*_, _-_, _≤_, _<_}
+use Prim.Native.Nat.{ℕ, _+_, _*_, _-_, _<_}
 use native.Mathlib.Omega.{arith}
-use borrow.Author.Needs.{needs}
 use Rattle.bits.specs.Bits.{bitNum, carried}
 use Rattle.order.specs.Order.{defaultOrder, placed}
 use Rattle.order.proofs.Gathering.{Gathered, gathered-none, gathered-bit, gathered-all}

@@ -1,9 +1,7 @@
 -- `order::taking::gather` meets its contract: after a turns the first 6 × a logical bits are gathered. Assumes nothing.
-use mathlib.Core.Path.{_≡_, refl, ap, _∙_}
 use mathlib.Core.Bool.{Bool}
-use Prim.Native.Nat.{ℕ, _+_, _*_, _-_, _^_, _≤_, _<_}
+use Prim.Native.Nat.{ℕ, _*_, _-_}
 use native.Mathlib.Omega.{arith}
-use borrow.Author.Needs.{needs}
 use Rattle.bits.specs.Bits.{carried}
 use Rattle.order.specs.Order.{defaultOrder, placeOf}
 use Rattle.order.proofs.Gathering.{Gathered, gathered-none, gathered-group, gathered-all}

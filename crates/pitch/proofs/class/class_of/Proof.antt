@@ -1,13 +1,13 @@
 -- `pitch::class::class_of` meets its contract: each return goes by the count of ones. Assumes nothing.
-use mathlib.Core.Path.{_≡_, sym, ap, _∙_}
+use mathlib.Core.Path.{sym, ap, _∙_}
 use Prim.Native.Nat.{_≤_, _<_}
 use native.Mathlib.Omega.{arith}
 use borrow.Author.Needs.{needs}
-use Rattle.bits.specs.Bits.{ones, value, bits}
+use Rattle.bits.specs.Bits.{ones, bits}
 use Rattle.bits.proofs.Digits.{value-bits}
 use Rattle.pitch.specs.Pitch.{index}
 use Rattle.pitch.specs.declared.PitchClass.the-variants.{Voiced}
-use Rattle.pitch.proofs.ByOnes.{count-is, class-few, class-two, class-many}
+use Rattle.pitch.proofs.Classes.{count-is, class-few, class-two, class-many}
 use Rattle.pitch.proofs.class.class_of.Statement.{statement}
 use Rattle.pitch.proofs.class.class_of.Tie as tie
 

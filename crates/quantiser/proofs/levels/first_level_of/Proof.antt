@@ -2,7 +2,7 @@
 use mathlib.Core.Path.{_≡_, sym, ap, _∙_}
 use borrow.Author.Needs.{needs}
 use Rattle.gain.specs.Levels.{firstLevel, levelIn}
-use Rattle.gain.proofs.Answers.{first-level-in}
+use Rattle.gain.proofs.Answers.{first-level-in-is}
 use Rattle.quantiser.proofs.levels.first_level_of.Statement.{statement}
 use Rattle.quantiser.proofs.levels.first_level_of.Tie as tie
 
@@ -17,7 +17,7 @@ enum-told c = search needs
 
 -- the level in the call's answer is that of the codes
 answered : (c : tie.After-first-level) → levelIn (c .first-level .result) ≡ firstLevel (c .before .args .g2) (c .before .args .code) (c .before .args .q)
-answered c = ap levelIn (c .first-level .ensures) ∙ first-level-in _ _ _ (c .before .pre .0) (c .before .pre .1) (c .before .pre .2)
+answered c = ap levelIn (c .first-level .ensures) ∙ first-level-in-is _ _ _ (c .before .pre .0) (c .before .pre .1) (c .before .pre .2)
 
 returns : tie.Need-returns
 returns c = ap levelIn (sym (c .before .x .given .1)) ∙ answered (c .before .before .before)

@@ -3,7 +3,7 @@ use mathlib.Core.Path.{_≡_, sym, ap, _∙_}
 use borrow.Author.Needs.{needs}
 use Rattle.bits.specs.Bits.{bits}
 use Rattle.pitch.specs.Pitch.{classOf, classIn}
-use Rattle.pitch.proofs.Answers.{class-in}
+use Rattle.pitch.proofs.Answers.{class-in-is}
 use Rattle.reading.proofs.pitch_code.class_of.Statement.{statement}
 use Rattle.reading.proofs.pitch_code.class_of.Tie as tie
 
@@ -18,7 +18,7 @@ enum-told c = search needs
 
 -- the class in the call's answer is that of the code
 answered : (c : tie.After-classify) → classIn (c .classify .result) ≡ classOf (bits 7 (c .before .args .code))
-answered c = ap classIn (c .classify .ensures) ∙ class-in (c .before .args .code) (c .before .pre)
+answered c = ap classIn (c .classify .ensures) ∙ class-in-is (c .before .args .code) (c .before .pre)
 
 returns : tie.Need-returns
 returns c = ap classIn (sym (c .before .class .given .1)) ∙ answered (c .before .before .before)

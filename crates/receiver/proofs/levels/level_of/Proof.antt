@@ -3,7 +3,7 @@ use mathlib.Core.Path.{ap, _∙_}
 use native.Mathlib.Omega.{arith}
 use borrow.Author.Needs.{needs}
 use Rattle.gain.specs.Levels.{levelIn}
-use Rattle.gain.proofs.Answers.{level-in}
+use Rattle.gain.proofs.Answers.{level-in-is}
 use Rattle.receiver.proofs.levels.level_of.Statement.{statement}
 use Rattle.receiver.proofs.levels.level_of.Tie as tie
 
@@ -16,7 +16,7 @@ level-in-requires c κs = search needs
 returns : tie.Need-returns
 returns c =
     let s = c .before .before in
-    c .level-in .ensures ∙ ap levelIn (c .before .level .ensures) ∙ level-in (s .args .g2) (omega arith)
+    c .level-in .ensures ∙ ap levelIn (c .before .level .ensures) ∙ level-in-is (s .args .g2) (omega arith)
 
 pub level-of-spec : {M : Type 1} → statement M
 level-of-spec = tie.close (tie.spec level-requires level-in-requires returns)

@@ -20,8 +20,8 @@ unfolding Count.ones Count.onesIn
 count-is = equal-at 128 Count.ones (λ c. ones (bits 7 c)) tt
 
 -- so is the count of the low seven bits of any number
-pub count-low : (c : ℕ) → Count.ones (c % 128) ≡ ones (bits 7 c)
-count-low c = count-is (c % 128) (mod-lt c (lit< tt)) ∙ ap ones (bits-mod 7 c)
+pub count-low-is : (c : ℕ) → Count.ones (c % 128) ≡ ones (bits 7 c)
+count-low-is c = count-is (c % 128) (mod-lt c (lit< tt)) ∙ ap ones (bits-mod 7 c)
 
 -- fewer than two ones: unvoiced
 pub class-few : (p : List Bool) → ones p < 2 → classOf p ≡ Unvoiced
