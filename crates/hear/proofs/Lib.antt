@@ -1,4 +1,4 @@
-pub mod Taken
-pub mod Pending
-pub mod Shown
+pub mod Receiving
+pub mod Buffer
+pub mod Example
 pub mod Extent

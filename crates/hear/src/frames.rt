@@ -4,13 +4,13 @@ use crate::output::nothing;
 use receiver::Kind;
 use receiver::ReceiveAnswer;
 use records::Record;
-use report::end_of;
+use text::end_of;
 ghost use mathlib.Core.Path.{_≡_};
 ghost use Prim.Native.Nat.{suc, _+_, _*_, _≤_};
 ghost use lib.ListN.{length};
 ghost use Rattle.records.specs.Records.{fresh};
 ghost use Rattle.report.specs.Lines.{frameLine};
-ghost use Rattle.report.specs.Placing.{Appended};
+ghost use Rattle.text.specs.Placing.{Appended};
 ghost use Rattle.hear.specs.Call.{repeatOf, recordAfter, answerAt};
 
 // How far a call is received: the receiver's record, how many frames were repeats, how many bytes of the text are
@@ -24,7 +24,10 @@ pub(crate) struct Progress {
 
 // Before the first frame: a fresh receiver, and nothing is sent.
 pub(crate) fn begin(end: usize) -> Progress
-    ensures { λ r. ⌜ (r .rec ≡ fresh) × (r .repeats ≡ 0) × (r .sent .count ≡ 0) × (r .end ≡ end) ⌝ }
+    ensures record { λ r. ⌜ r .rec ≡ fresh ⌝ }
+    ensures repeats { λ r. ⌜ r .repeats ≡ 0 ⌝ }
+    ensures sent { λ r. ⌜ r .sent .count ≡ 0 ⌝ }
+    ensures end { λ r. ⌜ r .end ≡ end ⌝ }
 {
     Progress {
         rec: records::fresh(),
@@ -36,7 +39,8 @@ pub(crate) fn begin(end: usize) -> Progress
 
 // 1 for a repeat, 0 for any other answer.
 fn repeat_of(answer: ReceiveAnswer) -> u64
-    ensures { λ r. ⌜ (r ≡ repeatOf answer) × (r ≤ 1) ⌝ }
+    ensures equal { λ r. ⌜ r ≡ repeatOf answer ⌝ }
+    ensures bound { λ r. ⌜ r ≤ 1 ⌝ }
 {
     match answer {
         ReceiveAnswer::Refused(_) => 0,
@@ -55,12 +59,12 @@ fn repeat_of(answer: ReceiveAnswer) -> u64
 pub(crate) fn take_frame(before: Progress, bytes: &[u8], k: usize, out: &mut [u8]) -> Progress
     requires { ⌜ (7 * suc k ≤ length (now bytes)) × (before .end + 144 ≤ length (now out)) × (before .repeats ≤ k) ⌝ }
     requires { ⌜ before .rec ≡ recordAfter (now bytes) k ⌝ }
-    ensures received { λ r. ⌜ (r .rec ≡ recordAfter (now (bytes .entry)) (suc k)) × (r .repeats ≡ before .repeats + repeatOf (answerAt (now (bytes .entry)) k)) ⌝ }
-    ensures line { λ r. ⌜ Appended (now (out .entry)) (before .end) (frameLine k (answerAt (now (bytes .entry)) k)) (now (out .exit)) (r .end)
-        × (r .end ≤ before .end + 144)
-        × (r .repeats ≤ suc k)
-        × (r .sent .count ≡ before .sent .count)
-        × (length (frameLine k (answerAt (now (bytes .entry)) k)) ≤ 144) ⌝ }
+    ensures record { λ r. ⌜ r .rec ≡ recordAfter (now (bytes .entry)) (suc k) ⌝ }
+    ensures repeats { λ r. ⌜ r .repeats ≡ before .repeats + repeatOf (answerAt (now (bytes .entry)) k) ⌝ }
+    ensures count { λ r. ⌜ r .repeats ≤ suc k ⌝ }
+    ensures sent { λ r. ⌜ r .sent .count ≡ before .sent .count ⌝ }
+    ensures line { λ r. ⌜ Appended (now (out .entry)) (before .end) (frameLine k (answerAt (now (bytes .entry)) k)) (now (out .exit)) (r .end) ⌝ }
+    ensures bound { λ r. ⌜ r .end ≤ before .end + 144 ⌝ }
 {
     let rec = before.rec;
     let sent = before.sent;

@@ -4,7 +4,7 @@ use crate::frames::begin;
 use crate::frames::take_frame;
 use crate::output::Sent;
 use crate::output::send;
-use report::end_of;
+use text::end_of;
 ghost use mathlib.Core.Path.{_≡_};
 ghost use Prim.Native.Nat.{_+_, _≤_};
 ghost use lib.ListN.{length};
@@ -15,8 +15,10 @@ ghost use Rattle.hear.specs.Call.{framesIn, repeatsBefore, textBefore, t
 fn make_room(before: Progress, bytes: &[u8], k: usize, out: &[u8]) -> Progress
     requires { ⌜ (k ≤ framesIn (now bytes)) × Pending (textBefore (now bytes) k) (before .sent .count) (before .end) (now out) ⌝ }
     requires { ⌜ (length (now out) ≡ 65536) × (before .end ≤ 65536) × (before .sent .count + before .end ≤ 2000000) ⌝ }
-    ensures same { λ r. ⌜ (r .rec ≡ before .rec) × (r .repeats ≡ before .repeats) ⌝ }
-    ensures room { λ r. ⌜ Pending (textBefore (now (bytes .entry)) k) (r .sent .count) (r .end) (now (out .entry)) × (r .end + 144 ≤ 65536) ⌝ }
+    ensures record { λ r. ⌜ r .rec ≡ before .rec ⌝ }
+    ensures repeats { λ r. ⌜ r .repeats ≡ before .repeats ⌝ }
+    ensures pending { λ r. ⌜ Pending (textBefore (now (bytes .entry)) k) (r .sent .count) (r .end) (now (out .entry)) ⌝ }
+    ensures room { λ r. ⌜ r .end + 144 ≤ 65536 ⌝ }
 {
     if before.end <= 65392 {
         return before;
@@ -34,9 +36,10 @@ fn make_room(before: Progress, bytes: &[u8], k: usize, out: &[u8]) -> Progress
 // All whole frames; the first line waits in the buffer.
 fn print_frames(bytes: &[u8], out: &mut [u8], end: usize) -> Progress
     requires { ⌜ (length (now bytes) ≤ 65534) × (length (now out) ≡ 65536) × Pending (textBefore (now bytes) 0) 0 end (now out) ⌝ }
-    ensures counted { λ r. ⌜ (r .repeats ≡ repeatsBefore (now (bytes .entry)) (framesIn (now (bytes .entry)))) × (r .sent .count + r .end ≤ 1400000) ⌝ }
-    ensures pending { λ r. ⌜ Pending (textBefore (now (bytes .entry)) (framesIn (now (bytes .entry)))) (r .sent .count) (r .end) (now (out .exit))
-        × (r .end ≤ 65536) ⌝ }
+    ensures repeats { λ r. ⌜ r .repeats ≡ repeatsBefore (now (bytes .entry)) (framesIn (now (bytes .entry))) ⌝ }
+    ensures count { λ r. ⌜ r .sent .count + r .end ≤ 1400000 ⌝ }
+    ensures pending { λ r. ⌜ Pending (textBefore (now (bytes .entry)) (framesIn (now (bytes .entry)))) (r .sent .count) (r .end) (now (out .exit)) ⌝ }
+    ensures bound { λ r. ⌜ r .end ≤ 65536 ⌝ }
 {
     let mut progress = begin(end);
     for k in 0..bytes.len() / 7 {

@@ -1,7 +1,9 @@
 -- Document 01, "Program hear": its lines. And the lines of a value and of a refusal, as "LSF and magnitude values" has them printed.
 use Prim.Native.Nat.{ℕ}
+use mathlib.Core.Bool.{Bool, true, false}
 use mathlib.Core.List.{List, _++_}
 use lib.IntN.{ℤ}
+use Rattle.sets.specs.Sets.{indicesIn}
 use Rattle.sets.specs.declared.Indices.{Indices}
 use Rattle.sets.specs.declared.ParameterSet.{ParameterSet}
 use Rattle.sets.specs.declared.ParameterSet.the-variants.{Unvoiced, Voiced}
@@ -11,7 +13,7 @@ use Rattle.receiver.specs.declared.Kind.the-variants.{Repeat}
 use Rattle.receiver.specs.declared.Kind.the-variants.{Unvoiced as Kind·Unvoiced, Voiced as Kind·Voiced}
 use Rattle.receiver.specs.declared.ReceiveAnswer.{ReceiveAnswer}
 use Rattle.receiver.specs.declared.ReceiveAnswer.the-variants.{Result, Refused}
-use Rattle.report.specs.Text.{ascii, decimal, signed, flag, field}
+use Rattle.text.specs.Text.{ascii, decimal, signed, field}
 
 -- the first line: the grains in a dB, and the order of the bits
 abbrev pub firstLine : List ℕ
@@ -27,15 +29,23 @@ letter Repeat = ascii "R"
 unfoldable pub lsfText : Indices → List ℕ
 lsfText x = field " lsf=" (decimal (x .l1)) ++ field "," (decimal (x .l2)) ++ field "," (decimal (x .l3)) ++ field "," (decimal (x .l4))
 
--- a set; what an unvoiced one lacks is a dash
+-- the pitch of a set, and what else a voiced one has; what an unvoiced one lacks is a dash
+abbrev pub pitchText : ParameterSet → List ℕ
+pitchText (Unvoiced x) = ascii " pitch=-"
+pitchText (Voiced x v) = field " pitch=" (decimal (v .pitch))
+
+abbrev pub voicingText : ParameterSet → List ℕ
+voicingText (Unvoiced x) = ascii " bp=- fm=- ap=-"
+voicingText (Voiced x v) = field " bp=" (decimal (v .bandpass)) ++ field " fm=" (decimal (v .fourier)) ++ field " ap=" (decimal (v .aperiodic))
+
+-- a set
 unfoldable pub setText : ParameterSet → List ℕ
-setText (Unvoiced x) = ascii " pitch=-" ++ lsfText x ++ ascii " bp=- fm=- ap=-"
-setText (Voiced x v) =
-    field " pitch=" (decimal (v .pitch))
-    ++ lsfText x
-    ++ field " bp=" (decimal (v .bandpass))
-    ++ field " fm=" (decimal (v .fourier))
-    ++ field " ap=" (decimal (v .aperiodic))
+setText set = pitchText set ++ lsfText (indicesIn set) ++ voicingText set
+
+-- a bit
+abbrev pub flag : Bool → List ℕ
+flag true = ascii "1"
+flag false = ascii "0"
 
 -- a result: kind, set and levels, then sync bit, repaired count and mute
 unfoldable pub resultText : FrameResult → List ℕ

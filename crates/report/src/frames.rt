@@ -1,41 +1,54 @@
 // The line of a frame.
-use crate::Line;
-use crate::LineAnswer;
-use crate::Name;
-use crate::bytes::place_line;
 use crate::fields::write_result;
-use crate::names::write_byte;
-use crate::names::write_number;
+use crate::parts::put_byte;
+use crate::parts::put_end;
+use crate::parts::put_number;
 use receiver::ReceiveAnswer;
+use text::LineAnswer;
+use text::Name;
 ghost use mathlib.Core.Path.{_≡_};
 ghost use Prim.Native.Nat.{_≤_};
 ghost use lib.ListN.{length};
+ghost use Rattle.text.specs.Placing.{placeAnswer, placeWrites, PutIfRoom};
 ghost use Rattle.report.specs.Lines.{answerText, frameLine};
-ghost use Rattle.report.specs.Placing.{placeAnswer, placeWrites, Ready, Wrote};
 
 const FRAME: Name = *b"frame=..........";
 
 const REFUSED: Name = *b" refused=.......";
 
 // What a frame was answered.
-fn write_answer(answer: ReceiveAnswer, line: &mut Line, at: usize) -> usize
-    requires { ⌜ Ready (now line) at 110 ⌝ }
-    ensures { λ r. ⌜ Wrote (now (line .entry)) at (answerText answer) 110 (now (line .exit)) r ⌝ }
+fn write_answer(answer: ReceiveAnswer, line: &mut [u8], at: usize) -> usize
+    ensures put { λ r. ⌜ PutIfRoom (now (line .entry)) at (answerText answer) (now (line .exit)) r ⌝ }
+    ensures bound { λ _. ⌜ length (answerText answer) ≤ 110 ⌝ }
 {
     match answer {
         ReceiveAnswer::Result(result) => write_result(result, line, at),
-        ReceiveAnswer::Refused(n) => write_byte(REFUSED, 9, n, line, at),
+        ReceiveAnswer::Refused(n) => put_byte(REFUSED, 9, n, line, at),
     }
+}
+
+// The whole line.
+fn write_frame(k: u64, answer: ReceiveAnswer, line: &mut [u8], at: usize) -> usize
+    ensures put { λ r. ⌜ PutIfRoom (now (line .entry)) at (frameLine k answer) (now (line .exit)) r ⌝ }
+    ensures bound { λ _. ⌜ length (frameLine k answer) ≤ 144 ⌝ }
+{
+    let number = put_number(FRAME, 6, k, line, at);
+    let whole = write_answer(answer, line, number);
+    put_end(line, whole)
 }
 
 // The line of frame k, to `at` and on; it has at most 144 bytes. Refused: 1, the buffer ends before the line.
 pub fn frame_line(k: u64, answer: ReceiveAnswer, out: &mut [u8], at: usize) -> LineAnswer
-    ensures { λ r. ⌜ (r ≡ placeAnswer (frameLine k answer) at (length (now (out .entry))))
-        × (now (out .exit) ≡ placeWrites (frameLine k answer) at (now (out .entry)))
-        × (length (frameLine k answer) ≤ 144) ⌝ }
+    ensures answer { λ r. ⌜ r ≡ placeAnswer (frameLine k answer) at (length (now (out .entry))) ⌝ }
+    ensures written { λ _. ⌜ now (out .exit) ≡ placeWrites (frameLine k answer) at (now (out .entry)) ⌝ }
+    ensures bound { λ _. ⌜ length (frameLine k answer) ≤ 144 ⌝ }
 {
+    if out.len() >= 144 {
+        if at <= out.len() - 144 {
+            return LineAnswer::Written(write_frame(k, answer, out, at));
+        }
+    }
     let mut line = [0u8; 144];
-    let number = write_number(FRAME, 6, k, &mut line, 0);
-    let end = write_answer(answer, &mut line, number);
-    place_line(&mut line, end, out, at)
+    let end = write_frame(k, answer, &mut line, 0);
+    text::place(&line[..end], out, at)
 }

@@ -1,14 +1,14 @@
 // Values as text: one number a line, or the line of a refusal.
 use crate::values::Spectrum;
-use report::end_of;
 use report::refusal_line;
 use report::value_line;
+use text::end_of;
 ghost use mathlib.Core.Path.{_≡_};
 ghost use Prim.Native.Nat.{_+_, _≤_};
 ghost use lib.ListN.{length, take};
 ghost use Rattle.io.specs.Counts.{Counts};
 ghost use Rattle.report.specs.Lines.{valueLine};
-ghost use Rattle.report.specs.Placing.{Appended};
+ghost use Rattle.text.specs.Placing.{Appended};
 ghost use Rattle.spectrum.specs.Lines.{lines, text};
 
 // All that the program prints, to the front of a buffer; how many bytes it is.

@@ -4,8 +4,8 @@ use Prim.Native.Nat.{_+_}
 use native.Mathlib.Omega.{arith}
 use Rattle.report.specs.Lines.{frameLine}
 use Rattle.hear.specs.Call.{repeatOf, answerAt}
-use Rattle.report.proofs.Added.{line-added}
-use Rattle.hear.proofs.Taken.{answer-is, next-is}
+use Rattle.text.proofs.Additions.{line-added}
+use Rattle.hear.proofs.Receiving.{answer-is, next-is}
 use borrow.Author.Needs.{needs}
 use Rattle.hear.proofs.frames.take_frame.Statement.{statement}
 use Rattle.hear.proofs.frames.take_frame.Tie as tie
@@ -59,10 +59,9 @@ returns c =
     let ans = answer-is bytes (a .k) (b .rec) x (r .receive .ensures) (s .pre .1) in
     let n : t .repeat-of .result ≡ repeatOf (answerAt bytes (a .k)) = t .repeat-of .ensures .0 ∙ ap repeatOf ans in
     let q = line-added (frameLine (a .k) (x .answer)) (a .out .now) _ (b .end) 144 _ _ (l .frame-line .ensures) (c .end-of .ensures) (s .pre .0 .1) in
-    let w = rw ans at q in (
-      (next-is bytes (a .k) (b .rec) x (r .receive .ensures) (s .pre .1), ap (λ n. b .repeats + n) n),
-      (w .0, w .1, omega (arith, t .repeat-of .ensures .1, s .pre .0 .2), refl, rw ans at (l .frame-line .ensures .2)),
-    )
+    let w = rw ans at q in
+    let next = next-is bytes (a .k) (b .rec) x (r .receive .ensures) (s .pre .1) in
+    (next, (ap (λ n. b .repeats + n) n, (omega (arith, t .repeat-of .ensures .1, s .pre .0 .2), (refl, (w .0, w .1)))))
 
 pub take-frame-spec : {M : Type 1} → statement M
 take-frame-spec =

@@ -5,20 +5,22 @@ use Prim.Native.Nat.{ℕ}
 use native.Mathlib.Omega.{arith}
 use lib.ListN.{take, drop}
 use Rattle.hear.specs.Call.{textBefore}
-use Rattle.hear.proofs.Pending.{pending-none, pending-next, text-goes-on}
+use Rattle.hear.proofs.Buffer.{pending-none, pending-next, text-append}
 use borrow.Author.Needs.{needs}
 use Rattle.hear.proofs.printing.make_room.Statement.{statement}
 use Rattle.hear.proofs.printing.make_room.Tie as tie
 
 returns : tie.Need-returns
-returns c = search needs
+returns c =
+    let s = c .before .before .before .before in
+    (refl, (refl, (s .pre .0 .1, omega arith)))
 
 send-requires : tie.Need-send-requires
 send-requires c κs =
     let s = c .before .before .before .before .before .before in
     let a = s .args in
     let b = a .before in
-    let g = text-goes-on (a .bytes .now) (a .k) (s .pre .0 .0) in
+    let g = text-append (a .bytes .now) (a .k) (s .pre .0 .0) in
     let n = pending-next (textBefore (a .bytes .now) (a .k)) (b .sent .count) (b .end) (a .out .now) (s .pre .0 .1) (g .0) in
     (omega (arith, s .pre .1), n ∙ ap (λ (l : List ℕ). take (b .end) (drop (b .sent .count) l)) (sym (g .1)), s .pre .1 .2)
 
@@ -28,7 +30,7 @@ returns-2 c =
     let a = s .args in
     let b = a .before in
     let w = pending-none (textBefore (a .bytes .now) (a .k)) (b .sent .count) (b .end) (a .out .now) (s .pre .0 .1) in
-    ((refl, refl), (rw (c .send .ensures) w, omega arith))
+    (refl, (refl, (rw (c .send .ensures) w, omega arith)))
 
 pub make-room-spec : {M : Type 1} → statement M
 make-room-spec = tie.close (tie.spec returns send-requires returns-2)

@@ -5,7 +5,7 @@ use native.Mathlib.Numerals.{add-one}
 use native.Mathlib.Omega.{arith}
 use lib.ListN.{length}
 use Rattle.hear.specs.Call.{answerAt, repeatOf, recordAfter, textBefore, repeatsBefore, Pending}
-use Rattle.hear.proofs.Pending.{pending-more}
+use Rattle.hear.proofs.Buffer.{pending-more}
 use borrow.Author.Needs.{needs}
 use Rattle.hear.proofs.printing.print_frames.Statement.{statement}
 use Rattle.hear.proofs.printing.print_frames.Tie as tie
@@ -28,8 +28,8 @@ loop-holds c =
     let s = c .before .before .before in
     let b = c .begin .ensures in
     let w : Pending (textBefore (s .args .bytes .now) 0) (c .begin .result .sent .count) (c .begin .result .end) (s .args .out .now) =
-    rw (b .2) (rw (b .3) (s .pre .2)) in
-    ((refl, omega arith, refl), (b .0, b .1, omega (arith, b .1)), (w, omega (arith, w .0), omega (arith, w .0)))
+    rw (b .1 .1 .0) (rw (b .1 .1 .1) (s .pre .2)) in
+    ((refl, omega arith, refl), (b .0, b .1 .0, omega (arith, b .1 .0)), (w, omega (arith, w .0), omega (arith, w .0)))
 
 make-room-requires : tie.Need-make-room-requires Inv-loop μ-loop
 make-room-requires c κs = search needs
@@ -41,7 +41,7 @@ take-frame-requires c κs =
     let i = l .loop .inv in
     let s = l .before .before .before .before in
     let r = m .make-room .ensures in
-    ((search needs, omega (arith, r .1 .1, i .0 .2, s .pre .1), omega (arith, r .0 .1, i .1 .2)), m .make-room .ensures .0 .0 ∙ i .1 .0)
+    ((search needs, omega (arith, r .1 .1 .1, i .0 .2, s .pre .1), omega (arith, r .1 .0, i .1 .2)), r .0 ∙ i .1 .0)
 
 add-k : tie.Need-add-k Inv-loop μ-loop
 add-k c = search needs
@@ -60,12 +60,12 @@ loop-again c =
     let f = t .take-frame .ensures in
     let r = m .make-room .ensures in
     let n : m .make-room .result .repeats + repeatOf (answerAt bytes (L .k)) ≡ repeatsBefore bytes (suc (L .k)) =
-    ap (λ n. n + repeatOf (answerAt bytes (L .k))) (r .0 .1 ∙ L .inv .1 .1) in
-    let w = pending-more (textBefore bytes (L .k)) _ _ _ (r .1 .0) _ _ _ (f .1 .0) in
+    ap (λ n. n + repeatOf (answerAt bytes (L .k))) (r .1 .0 ∙ L .inv .1 .1) in
+    let w = pending-more (textBefore bytes (L .k)) _ _ _ (r .1 .1 .0) _ _ _ (f .1 .1 .1 .1 .0) in
     rw add-one (
       (L .inv .0 .0, omega arith, search needs),
-      (f .0 .0, f .0 .1 ∙ n, f .1 .2),
-      (rw (f .1 .3) w, omega arith, omega arith),
+      (f .0, f .1 .0 ∙ n, f .1 .1 .0),
+      (rw (f .1 .1 .1 .0) w, omega arith, omega arith),
     )
 
 same-length : tie.Need-same-length Inv-loop μ-loop
@@ -77,7 +77,7 @@ returns c =
     let s = c .before .before .before .before .before in
     let i = L .inv in
     let e : L .k ≡ length (s .args .bytes .now) / 7 = omega (arith, i .0 .0, i .0 .1) in
-    ((rw e at (i .1 .1), omega (arith, i .2 .2, s .pre)), (rw e at (i .2 .0), i .2 .1))
+    (rw e at (i .1 .1), (omega (arith, i .2 .2, s .pre), (rw e at (i .2 .0), i .2 .1)))
 
 pub print-frames-spec : {M : Type 1} → statement M
 print-frames-spec =

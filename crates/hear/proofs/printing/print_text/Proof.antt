@@ -1,23 +1,29 @@
 -- `hear::printing::print_text` meets its contract: with the last line the whole text is sent or waits, and what waits is sent. Assumes nothing.
-use mathlib.Core.Path.{_≡_, ap, _∙_}
-use mathlib.Core.List.{List, [], append-nil}
+use mathlib.Core.Path.{_≡_, subst, ap, _∙_}
+use mathlib.Core.List.{List, [], _++_, append-nil}
 use Prim.Native.Nat.{ℕ, _+_, _≤_}
 use native.Mathlib.Omega.{arith}
 use lib.ListN.{length, take, drop}
 use Rattle.report.specs.Lines.{firstLine, lastLine}
 use Rattle.hear.specs.Call.{framesIn, leftIn, textBefore, repeatsBefore, text, Pending}
-use Rattle.report.proofs.Added.{line-added}
-use Rattle.hear.proofs.Pending.{pending-more, pending-next}
+use Rattle.text.proofs.Additions.{line-added}
+use Rattle.hear.proofs.Buffer.{pending-more, pending-next}
 use borrow.Author.Needs.{needs}
 use Rattle.hear.proofs.printing.print_text.Statement.{statement}
 use Rattle.hear.proofs.printing.print_text.Tie as tie
 
--- where room was made for the last line, and where the call began
+-- the stations on the way back: room was made for the last line, the frames were printed, the first line was written, the call began
 abbrev made : tie.After-end-of2 → tie.After-make-room
 made c = c .before .before .before .before .before
 
+abbrev printed : tie.After-make-room → tie.After-print-frames
+printed c = c .before .before .before .before
+
+abbrev opened : tie.After-print-frames → tie.After-first-line
+opened c = c .before .before .before .before .before
+
 abbrev begun : tie.After-end-of2 → tie.Start
-begun c = made c .before .before .before .before .before .before .before .before .before .before .before .before .before
+begun c = opened (printed (made c)) .before .before .before .before
 
 -- the whole text is sent or waits
 whole : (c : tie.After-end-of2)
@@ -26,22 +32,24 @@ whole : (c : tie.After-end-of2)
 unfolding text
 whole c =
     let l = c .before .before .before in
-    let m = l .before .before in
-    let p = m .before .before .before .before in
-    let s = p .before .before .before .before .before .before .before .before .before in
-    let bytes = s .args .bytes .now in
+    let m = made c in
+    let p = printed m in
+    let bytes = begun c .args .bytes .now in
     let n = framesIn bytes in
     let r = m .make-room .ensures in
-    let count : m .make-room .result .repeats ≡ repeatsBefore bytes n = r .0 .1 ∙ p .print-frames .ensures .0 .0 in
+    let count : m .make-room .result .repeats ≡ repeatsBefore bytes n = r .1 .0 ∙ p .print-frames .ensures .0 in
     let last = lastLine n (m .make-room .result .repeats) (leftIn bytes) in
-    let q = line-added last _ _ (m .make-room .result .end) 144 _ _ (l .last-line .ensures) (c .end-of2 .ensures) (omega (arith, r .1 .1)) in
-    (pending-more (textBefore bytes n) _ _ _ (r .1 .0) _ _ _ (rw count at (q .0)), q .1)
+    let size = p .print-frames .kept .1 .0 ∙ opened p .first-line .kept .0 ∙ begun c .pre .1 in
+    let q = line-added last _ _ (m .make-room .result .end) 144 _ _ (l .last-line .ensures) (c .end-of2 .ensures) (omega (arith, r .1 .1 .1, size)) in
+    let Waits : ℕ → Type 0 =
+    λ (k : ℕ). Pending (textBefore bytes n ++ lastLine n k (leftIn bytes)) (m .make-room .result .sent .count) (c .end-of2 .result) (l .last-line .last .1 .1 .1 .0) in
+    (subst Waits count (pending-more (textBefore bytes n) _ _ _ (r .1 .1 .0) _ _ _ (q .0)), q .1)
 
 -- the buffer keeps its length
 size-kept : (c : tie.After-end-of2) → length (c .before .before .before .last-line .last .1 .1 .1 .0) ≡ length (begun c .args .out .now)
 size-kept c =
-    let p = made c .before .before .before .before in
-    let f = p .before .before .before .before .before in
+    let p = printed (made c) in
+    let f = opened p in
     c .before .before .before .last-line .kept .1 .1 .1 .0 ∙ p .print-frames .kept .1 .0 ∙ f .first-line .kept .0
 
 first-line-requires : tie.Need-first-line-requires
@@ -58,7 +66,7 @@ print-frames-requires c κs =
     let s = f .before .before .before .before in
     let size : length firstLine ≤ 22 = omega arith in
     let w = f .first-line .ensures in
-    let q = line-added firstLine (s .args .out .now) _ 0 22 _ _ (w .0, w .1, size) (e .end-of .ensures) (omega (arith, s .pre)) in
+    let q = line-added firstLine (s .args .out .now) _ 0 22 _ _ (w .0, (w .1, size)) (e .end-of .ensures) (omega (arith, s .pre)) in
     (s .pre .0, search needs, (omega (arith, q .0 .0), q .0 .1))
 
 make-room-requires : tie.Need-make-room-requires
@@ -73,8 +81,8 @@ end-of-requires-2 c κs = search needs
 send-requires : tie.Need-send-requires
 send-requires c κs =
     let e = c .before .before in
-    let m = e .before .before .before .before .before in
-    let p = m .before .before .before .before in
+    let m = made e in
+    let p = printed m in
     let r = m .make-room .ensures in
     let f = p .print-frames .ensures in
     let w = whole e in
@@ -83,7 +91,7 @@ send-requires c κs =
     let t = text (s .args .bytes .now) in
     let n = pending-next t (m .make-room .result .sent .count) (e .end-of2 .result) _ (w .0) [] in
     let all = ap (λ (l : List ℕ). take (e .end-of2 .result) (drop (m .make-room .result .sent .count) l)) (append-nil t) in
-    (omega (arith, w .1, r .1 .1, size), n ∙ all, omega (arith, w .1, r .1 .0 .0, f .1 .0 .0, f .0 .1))
+    (omega (arith, w .1, r .1 .1 .1, size), n ∙ all, omega (arith, w .1, r .1 .1 .0 .0, f .1 .1 .0 .0, f .1 .0))
 
 same-length : tie.Need-same-length
 same-length c = size-kept (c .before .before .before)

@@ -1,81 +1,51 @@
--- `report::fields::write_set` meets its contract: each kind of set has its parts, one after the other. Assumes nothing.
-use native.Mathlib.Omega.{arith}
-use borrow.Author.Needs.{needs}
-use Rattle.report.specs.Lines.{setText}
-use Rattle.report.proofs.Writing.{wrote-more, wrote-within}
+-- `report::fields::write_set` meets its contract: its parts, one after the other. Assumes nothing.
+use mathlib.Core.Path.{_∙_}
+use mathlib.Core.List.{_++_}
+use Rattle.sets.specs.Sets.{indicesIn}
+use Rattle.report.specs.Lines.{pitchText, lsfText, voicingText, setText}
+use Rattle.report.proofs.Lines.{part-append}
 use Rattle.report.proofs.fields.write_set.Statement.{statement}
 use Rattle.report.proofs.fields.write_set.Tie as tie
 
-enum-known-set : tie.Need-enum-known-set
-enum-known-set c = search needs
+write-pitch-requires : tie.Need-write-pitch-requires
+write-pitch-requires c κs = tt
 
-write-name-requires : tie.Need-write-name-requires
-write-name-requires c κs = omega arith
+indices-of-requires : tie.Need-indices-of-requires
+indices-of-requires c κs = tt
 
 write-lsf-requires : tie.Need-write-lsf-requires
-write-lsf-requires c κs = omega arith
+write-lsf-requires c κs = tt
 
-write-name-requires-2 : tie.Need-write-name-requires-2
-write-name-requires-2 c κs = omega arith
+write-voicing-requires : tie.Need-write-voicing-requires
+write-voicing-requires c κs = tt
 
-enum-known-set-2 : tie.Need-enum-known-set-2
-enum-known-set-2 c = search needs
-
-write-byte-requires : tie.Need-write-byte-requires
-write-byte-requires c κs = omega arith
-
-write-lsf-requires-2 : tie.Need-write-lsf-requires-2
-write-lsf-requires-2 c κs = omega arith
-
-write-byte-requires-2 : tie.Need-write-byte-requires-2
-write-byte-requires-2 c κs = omega arith
-
-write-byte-requires-3 : tie.Need-write-byte-requires-3
-write-byte-requires-3 c κs = omega arith
-
-write-byte-requires-4 : tie.Need-write-byte-requires-4
-write-byte-requires-4 c κs = omega arith
+same-length : tie.Need-same-length
+same-length c =
+    let v = c .before .before in
+    let f = v .before .before .before .before in
+    let p = f .before .before .before .before .before in
+    v .write-voicing .kept .1 .0 ∙ f .write-lsf .kept .1 .0 ∙ p .write-pitch .kept .1 .0
 
 returns : tie.Need-returns
 unfolding setText
-returns d3 =
-    let d2 = d3 .before .before in
-    let d1 = d2 .before .before in
-    let t = d1 .before .before .before in
-    let a = t .before .before .args in
+returns c =
+    let v = c .before .before in
+    let f = v .before .before .before .before in
+    let i = f .before .before in
+    let p = i .before .before .before in
+    let a = p .before .before .before .args in
     let l = a .line .now in
-    let w2 = wrote-more l _ _ (a .at) _ _ 8 20 _ _ (d1 .write-name .ensures) (d2 .write-lsf .ensures) in
-    let w3 = wrote-more l _ _ (a .at) _ _ 28 15 _ _ w2 (d3 .write-name2 .ensures) in
-    rw (t .set .given .1) (wrote-within l _ (a .at) _ 43 51 _ (omega arith) w3)
-
-returns-2 : tie.Need-returns-2
-unfolding setText
-returns-2 d5 =
-    let d4 = d5 .before .before in
-    let d3 = d4 .before .before in
-    let d2 = d3 .before .before in
-    let d1 = d2 .before .before in
-    let t = d1 .before .before .before in
-    let a = t .before .before .args in
-    let l = a .line .now in
-    let w2 = wrote-more l _ _ (a .at) _ _ 10 20 _ _ (d1 .write-byte .ensures) (d2 .write-lsf2 .ensures) in
-    let w3 = wrote-more l _ _ (a .at) _ _ 30 7 _ _ w2 (d3 .write-byte2 .ensures) in
-    let w4 = wrote-more l _ _ (a .at) _ _ 37 7 _ _ w3 (d4 .write-byte3 .ensures) in
-    rw (t .set2 .given .1) (wrote-more l _ _ (a .at) _ _ 44 7 _ _ w4 (d5 .write-byte4 .ensures))
+    let lsf = rw (i .indices-of .ensures) at (f .write-lsf .ensures) in
+    let w2 = part-append l _ _ (a .at) _ _ _ _ (pitchText (a .set)) (lsfText (indicesIn (a .set))) (p .write-pitch .ensures) lsf in
+    part-append l _ _ (a .at) _ _ _ _ (pitchText (a .set) ++ lsfText (indicesIn (a .set))) (voicingText (a .set)) w2 (v .write-voicing .ensures)
 
 pub write-set-spec : {M : Type 1} → statement M
 write-set-spec =
     tie.close
     (tie.spec
-    enum-known-set
-    write-name-requires
+    write-pitch-requires
+    indices-of-requires
     write-lsf-requires
-    write-name-requires-2
-    enum-known-set-2
-    write-byte-requires
-    write-lsf-requires-2
-    write-byte-requires-2
-    write-byte-requires-3
-    write-byte-requires-4
-    returns
-    returns-2)
+    write-voicing-requires
+    same-length
+    returns)

@@ -1,55 +1,104 @@
--- `report::summary::last_line` meets its contract: three parts make the line, which is then put into the buffer whole. Assumes nothing.
-use mathlib.Core.List.{_++_}
+-- `report::summary::last_line` meets its contract: three parts and the line end make the line, which is then put into the buffer whole. Assumes nothing.
+use mathlib.Core.Path.{sym}
+use mathlib.Core.List.{List, _++_}
+use Prim.Native.Nat.{ℕ}
 use native.Mathlib.Omega.{arith}
-use lib.ListN.{replicate}
 use borrow.Author.Needs.{needs}
-use Rattle.report.specs.Text.{decimal, field}
+use lib.ListN.{replicate}
+use lib.Seq.{length-take-le}
+use Rattle.text.specs.Text.{ascii, decimal, field}
 use Rattle.report.specs.Lines.{lastLine}
-use Rattle.report.proofs.Writing.{wrote-more, line-placed}
+use Rattle.report.proofs.Lines.{Part, part-append, part-within, line-end-le, line-owes}
 use Rattle.report.proofs.summary.last_line.Statement.{statement}
 use Rattle.report.proofs.summary.last_line.Tie as tie
 
-write-number-requires : tie.Need-write-number-requires
-write-number-requires c κs = search needs
+-- where the call began
+abbrev begun : tie.After-put-end → tie.Start
+begun c = c .before .before .before .before .before .before .before .before .before .before .before .before
 
-write-number-requires-2 : tie.Need-write-number-requires-2
-write-number-requires-2 c κs = omega arith
-
-write-number-requires-3 : tie.Need-write-number-requires-3
-write-number-requires-3 c κs = omega arith
-
-slice-aggregate-place-line : tie.Need-slice-aggregate-place-line
-slice-aggregate-place-line c = search needs
-
-place-line-requires : tie.Need-place-line-requires
-place-line-requires c κs = search needs
-
-same-length : tie.Need-same-length
-same-length c = search needs
-
-returns : tie.Need-returns
+-- the whole line stands in the buffer
+whole : (c : tie.After-put-end) → let a = begun c .args in
+    Part (replicate 144 0) 0 (lastLine (a .frames) (a .repeats) (a .left)) 144 (c .put-end .last .0) (c .put-end .result)
 unfolding lastLine
-returns c =
-    let p = c .before .before .before in
-    let d3 = p .before .before .before in
-    let d2 = d3 .before .before in
-    let d1 = d2 .before .before in
+whole c =
+    let d3 = c .before .before .before in
+    let d2 = d3 .before .before .before in
+    let d1 = d2 .before .before .before in
     let a = d1 .before .before .before .args in
+    let l : List ℕ = replicate 144 0 in
     let p1 = field "frames=" (decimal (a .frames)) in
     let p2 = field " repeats=" (decimal (a .repeats)) in
     let p3 = field " left=" (decimal (a .left)) in
-    let w2 = wrote-more (replicate 144 0) _ _ 0 _ _ 27 29 p1 p2 (d1 .write-number .ensures) (d2 .write-number2 .ensures) in
-    let w3 = wrote-more (replicate 144 0) _ _ 0 _ _ 56 26 (p1 ++ p2) p3 w2 (d3 .write-number3 .ensures) in
-    line-placed (replicate 144 0) _ _ _ 82 144 (a .out .now) _ (a .at) _ w3 (omega arith) (p .place-line .ensures)
+    let w2 = part-append l _ _ 0 _ _ _ _ p1 p2 (d1 .put-number .ensures) (d2 .put-number2 .ensures) in
+    let w3 = part-append l _ _ 0 _ _ _ _ (p1 ++ p2) p3 w2 (d3 .put-number3 .ensures) in
+    let w4 = part-append l _ _ 0 _ _ _ 1 (p1 ++ p2 ++ p3) (ascii "\n") w3 (c .put-end .ensures, omega arith) in
+    part-within l _ 0 _ 83 144 (p1 ++ p2 ++ p3 ++ ascii "\n") (omega arith) w4
+
+slice-aggregate-put-number : tie.Need-slice-aggregate-put-number
+slice-aggregate-put-number c = search needs
+
+put-number-requires : tie.Need-put-number-requires
+put-number-requires c κs = tt
+
+slice-aggregate-put-number-2 : tie.Need-slice-aggregate-put-number-2
+slice-aggregate-put-number-2 c = search needs
+
+put-number-requires-2 : tie.Need-put-number-requires-2
+put-number-requires-2 c κs = tt
+
+slice-aggregate-put-number-3 : tie.Need-slice-aggregate-put-number-3
+slice-aggregate-put-number-3 c = search needs
+
+put-number-requires-3 : tie.Need-put-number-requires-3
+put-number-requires-3 c κs = tt
+
+slice-aggregate-put-end : tie.Need-slice-aggregate-put-end
+slice-aggregate-put-end c = search needs
+
+put-end-requires : tie.Need-put-end-requires
+put-end-requires c κs = tt
+
+array-share-prefix-line : tie.Need-array-share-prefix-line
+array-share-prefix-line c =
+    let w = c .before in
+    let d3 = w .before .before .before in
+    let d2 = d3 .before .before .before in
+    let d1 = d2 .before .before .before in
+    let a = begun w .args in
+    let e = line-end-le (replicate 144 0) _ (lastLine (a .frames) (a .repeats) (a .left)) _ 144 (whole w) (omega arith) in
+    omega (arith, e, w .put-end .kept .0, d3 .put-number3 .kept .1 .1 .1 .0, d2 .put-number2 .kept .1 .1 .1 .0, d1 .put-number .kept .1 .1 .1 .0)
+
+slice-aggregate-place : tie.Need-slice-aggregate-place
+slice-aggregate-place c = sym (length-take-le _ _ (array-share-prefix-line (c .before)))
+
+place-requires : tie.Need-place-requires
+place-requires c κs = tt
+
+same-length : tie.Need-same-length
+same-length c = c .before .before .place .kept .1 .0
+
+returns : tie.Need-returns
+returns c =
+    let p = c .before .before in
+    let w = p .before .before .before .before in
+    let a = begun w .args in
+    let o = line-owes (replicate 144 0) _ (lastLine (a .frames) (a .repeats) (a .left)) _ 144 (whole w) (omega arith) (a .out .now) _ (a .at) _ (p .place .ensures) in
+    (o .0, (o .1, whole w .1))
 
 pub last-line-spec : {M : Type 1} → statement M
 last-line-spec =
     tie.close
     (tie.spec
-    write-number-requires
-    write-number-requires-2
-    write-number-requires-3
-    slice-aggregate-place-line
-    place-line-requires
+    slice-aggregate-put-number
+    put-number-requires
+    slice-aggregate-put-number-2
+    put-number-requires-2
+    slice-aggregate-put-number-3
+    put-number-requires-3
+    slice-aggregate-put-end
+    put-end-requires
+    array-share-prefix-line
+    slice-aggregate-place
+    place-requires
     same-length
     returns)

@@ -1,66 +1,87 @@
--- `report::values::value_line` meets its contract: sign and digits make the line, which is then put into the buffer whole. Assumes nothing.
-use mathlib.Core.Path.{_≡_, refl}
-use mathlib.Core.List.{_++_}
+-- `report::values::value_line` meets its contract: sign, digits and the line end make the line, which is then put into the buffer whole. Assumes nothing.
+use mathlib.Core.Path.{sym}
+use mathlib.Core.List.{List}
+use Prim.Native.Nat.{ℕ}
 use native.Mathlib.Omega.{arith}
+use borrow.Author.Needs.{needs}
 use lib.ListN.{replicate}
+use lib.Seq.{length-take-le}
 use mir.Syntax.{w64}
 use mir.Val.{toZ, ofZ}
 use mir.ValLaws.{toZ-ofZ}
-use borrow.Author.Needs.{needs}
-use Rattle.report.specs.Text.{sign, signed, decimal}
+use Rattle.text.specs.Text.{ascii, signed}
+use Rattle.text.proofs.Answers.{owed-put}
+use Rattle.text.proofs.Sizes.{signed-length-le}
 use Rattle.report.specs.Lines.{valueLine}
-use Rattle.report.proofs.Decimals.{decimal-length}
-use Rattle.report.proofs.Writing.{wrote-more, wrote-within, line-placed}
+use Rattle.report.proofs.Lines.{Part, part-append, line-end-le, line-owes}
 use Rattle.report.proofs.values.value_line.Statement.{statement}
 use Rattle.report.proofs.values.value_line.Tie as tie
 
-write-sign-requires : tie.Need-write-sign-requires
-write-sign-requires c κs = search needs
+-- where the call began
+abbrev begun : tie.After-put-end → tie.Start
+begun c = c .before .before .before .before .before .before .before
 
-absolute-requires : tie.Need-absolute-requires
-absolute-requires c κs = search needs
+-- the whole line stands in the buffer
+whole : (c : tie.After-put-end) → Part (replicate 22 0) 0 (valueLine (begun c .args .x)) 22 (c .put-end .last .0) (c .put-end .result)
+unfolding valueLine
+whole c =
+    let n = c .before .before in
+    let g = n .before .before in
+    let s = g .before .before .before in
+    let x = s .args .x in
+    let l : List ℕ = replicate 22 0 in
+    let d = rw (toZ-ofZ w64 x (s .fits .x)) at (owed-put (signed (toZ w64 (ofZ w64 x))) 0 l _ _ _ (g .signed .ensures) (n .end-of .ensures)) in
+    part-append l _ _ 0 _ _ 21 1 (signed x) (ascii "\n") (d, signed-length-le x (s .fits .x)) (c .put-end .ensures, omega arith)
 
-write-decimal-requires : tie.Need-write-decimal-requires
-write-decimal-requires c κs =
-    let z = c .before .absolute in
-    let s = c .before .before .write-sign .ensures in
-    (s .2, omega (arith, s .1, decimal-length 19 (z .result) (omega (arith, z .ok))))
+slice-aggregate-signed : tie.Need-slice-aggregate-signed
+slice-aggregate-signed c = search needs
 
-slice-aggregate-place-line : tie.Need-slice-aggregate-place-line
-slice-aggregate-place-line c = search needs
+signed-requires : tie.Need-signed-requires
+signed-requires c κs = tt
 
-place-line-requires : tie.Need-place-line-requires
-place-line-requires c κs =
-    let z = c .before .before .before .before .absolute in
-    omega (arith, decimal-length 19 (z .result) (omega (arith, z .ok)))
+end-of-requires : tie.Need-end-of-requires
+end-of-requires c κs = tt
+
+slice-aggregate-put-end : tie.Need-slice-aggregate-put-end
+slice-aggregate-put-end c = search needs
+
+put-end-requires : tie.Need-put-end-requires
+put-end-requires c κs = tt
+
+array-share-prefix-line : tie.Need-array-share-prefix-line
+array-share-prefix-line c =
+    let w = c .before in
+    let e = line-end-le (replicate 22 0) _ (valueLine (begun w .args .x)) _ 22 (whole w) (omega arith) in
+    omega (arith, e, w .put-end .kept .0, w .before .before .before .before .signed .kept .1 .0)
+
+slice-aggregate-place : tie.Need-slice-aggregate-place
+slice-aggregate-place c = sym (length-take-le _ _ (array-share-prefix-line (c .before)))
+
+place-requires : tie.Need-place-requires
+place-requires c κs = tt
 
 same-length : tie.Need-same-length
-same-length c = search needs
+same-length c = c .before .before .place .kept .1 .0
 
 returns : tie.Need-returns
-unfolding valueLine
 returns c =
-    let p = c .before .before .before in
-    let d2 = p .before .before .before in
-    let z = d2 .before .before in
-    let d1 = z .before in
-    let s = d1 .before .before .before in
-    let x = s .args .x in
-    let y = toZ w64 (ofZ w64 x) in
-    let n = z .absolute .result in
-    let d = wrote-within _ _ _ _ _ 20 (decimal n) (decimal-length 19 n (omega (arith, z .absolute .ok))) (d2 .write-decimal .ensures) in
-    let w = wrote-more (replicate 144 0) _ _ 0 _ _ 1 20 (sign y) (decimal n) (d1 .write-sign .ensures) d in
-    let t : sign y ++ decimal n ≡ signed x = rw (z .absolute .ensures, toZ-ofZ w64 x (s .fits .x)) refl in
-    line-placed (replicate 144 0) _ (signed x) _ 21 22 (s .args .out .now) _ (s .args .at) _ (rw t at w) (omega arith) (p .place-line .ensures)
+    let p = c .before .before in
+    let w = p .before .before .before .before in
+    let a = begun w .args in
+    let o = line-owes (replicate 22 0) _ (valueLine (a .x)) _ 22 (whole w) (omega arith) (a .out .now) _ (a .at) _ (p .place .ensures) in
+    (o .0, (o .1, whole w .1))
 
 pub value-line-spec : {M : Type 1} → statement M
 value-line-spec =
     tie.close
     (tie.spec
-    write-sign-requires
-    absolute-requires
-    write-decimal-requires
-    slice-aggregate-place-line
-    place-line-requires
+    slice-aggregate-signed
+    signed-requires
+    end-of-requires
+    slice-aggregate-put-end
+    put-end-requires
+    array-share-prefix-line
+    slice-aggregate-place
+    place-requires
     same-length
     returns)

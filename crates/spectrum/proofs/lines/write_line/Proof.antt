@@ -3,7 +3,7 @@ use mir.Syntax.{w64}
 use mir.Val.{toZ, ofZ}
 use mir.ValLaws.{toZ-ofZ}
 use Rattle.report.specs.Lines.{valueLine}
-use Rattle.report.proofs.Added.{line-added}
+use Rattle.text.proofs.Additions.{line-added}
 use borrow.Author.Needs.{needs}
 use Rattle.spectrum.proofs.lines.write_line.Statement.{statement}
 use Rattle.spectrum.proofs.lines.write_line.Tie as tie

@@ -10,8 +10,8 @@ use lib.IntN.{pos}
 use Rattle.codebook_values.proofs.Sizes.{back}
 use Rattle.spectrum.specs.Lines.{lines}
 use Rattle.report.specs.Lines.{valueLine}
-use Rattle.report.specs.Placing.{Appended}
-use Rattle.report.proofs.Appending.{appended-none, appended-more}
+use Rattle.text.specs.Placing.{Appended}
+use Rattle.text.proofs.Puts.{appended-none, appended-append}
 use Rattle.spectrum.proofs.Printed.{lines-more}
 use borrow.Author.Needs.{needs}
 use Rattle.spectrum.proofs.lines.write_lines.Statement.{statement}
@@ -55,7 +55,7 @@ loop-again c =
     rw (back x (w .before .before .write-line-arg .given)) at (w .write-line .ensures .0) in
     let m : lines (take (L .i + 1) (s .t1)) ≡ lines (take (L .i) (s .t1)) ++ valueLine x = rw add-one (lines-more (s .t1) (L .i) (pos 0) h) in
     let b = w .write-line .ensures .1 in
-    (omega arith, L .inv .1, search needs, omega (arith, b), rw m (appended-more _ _ _ _ _ _ _ _ (L .inv .4) e))
+    (omega arith, L .inv .1, search needs, omega (arith, b), rw m (appended-append _ _ _ _ _ _ _ _ (L .inv .4) e))
 
 same-length : tie.Need-same-length Inv-loop μ-loop
 same-length c = search needs

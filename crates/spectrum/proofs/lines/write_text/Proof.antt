@@ -4,8 +4,8 @@ use native.Mathlib.Omega.{arith}
 use borrow.Author.Needs.{needs}
 use Rattle.spectrum.specs.Lines.{lines}
 use Rattle.report.specs.Lines.{refusalLine}
-use Rattle.report.proofs.Appending.{appended-more}
-use Rattle.report.proofs.Added.{line-added}
+use Rattle.text.proofs.Puts.{appended-append}
+use Rattle.text.proofs.Additions.{line-added}
 use Rattle.spectrum.proofs.Printed.{text-refused, text-values, counted}
 use Rattle.spectrum.proofs.lines.write_text.Statement.{statement}
 use Rattle.spectrum.proofs.lines.write_text.Tie as tie
@@ -39,7 +39,7 @@ returns-2 c =
     let e = v .before .before .before .before in
     let a = e .before .before .args in
     let s = a .spectrum in
-    let g = appended-more (a .out .now) _ _ 0 _ _ (lines (s .lsf)) (lines (s .magnitudes)) (v .write-lines .ensures .0) (c .write-lines2 .ensures .0) in (
+    let g = appended-append (a .out .now) _ _ 0 _ _ (lines (s .lsf)) (lines (s .magnitudes)) (v .write-lines .ensures .0) (c .write-lines2 .ensures .0) in (
       g .1 ∙ text-values (s .refusal) (s .lsf) (s .magnitudes) (e .if1 .left),
       counted _ _ (omega (arith, v .write-lines .ensures .1, c .write-lines2 .ensures .1)),
     )

@@ -1,0 +1,44 @@
+-- `text::decimal::write_hundreds` meets its contract: two digits after at most two. Assumes nothing.
+use native.Mathlib.Omega.{arith}
+use borrow.Author.Needs.{needs}
+use Rattle.text.proofs.Pairs.{decimal-length-more, decimal-put}
+use Rattle.text.proofs.decimal.write_hundreds.Statement.{statement}
+use Rattle.text.proofs.decimal.write_hundreds.Tie as tie
+
+cast-write-small : tie.Need-cast-write-small
+cast-write-small c = search needs
+
+write-small-requires : tie.Need-write-small-requires
+write-small-requires c κs =
+    let s = c .before .before in
+    (omega arith, omega (arith, decimal-length-more (s .args .n) (s .pre .0)))
+
+cast-write-pair : tie.Need-cast-write-pair
+cast-write-pair c = search needs
+
+write-pair-requires : tie.Need-write-pair-requires
+write-pair-requires c κs =
+    let d = c .before .before .before in
+    let s = d .before .before .before in
+    (omega arith, omega (arith, d .write-small .ensures .0, decimal-length-more (s .args .n) (s .pre .0)))
+
+same-length : tie.Need-same-length
+same-length c = search needs
+
+returns : tie.Need-returns
+returns c =
+    let w = c .before .before in
+    let d = w .before .before .before .before in
+    let s = d .before .before .before in
+    decimal-put (s .args .n) (s .args .out .now) _ _ (s .args .at) _ _ (s .pre .0) (omega arith) (d .write-small .ensures) (w .write-pair .ensures)
+
+pub write-hundreds-spec : {M : Type 1} → statement M
+write-hundreds-spec =
+    tie.close
+    (tie.spec
+    cast-write-small
+    write-small-requires
+    cast-write-pair
+    write-pair-requires
+    same-length
+    returns)
