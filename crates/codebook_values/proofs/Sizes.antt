@@ -25,8 +25,8 @@ pub abs-fits : (z : ℤ) → natAbs z < 2 ^ 63 → SFits w64 z
 abs-fits z h = record { sfits = omega (arith, mag-le z) }
 
 -- a number that the type holds is read back from its bits
-pub back : (z : ℤ) → mag z < 2 ^ 63 → toZ w64 (ofZ w64 z) ≡ z
-back z h = toZ-ofZ w64 z (record { sfits = h })
+pub number-back : (z : ℤ) → mag z < 2 ^ 63 → toZ w64 (ofZ w64 z) ≡ z
+number-back z h = toZ-ofZ w64 z (record { sfits = h })
 
 -- the size of a difference of two naturals
 sub-abs-le : (a b : ℕ) → natAbs (subℕ a b) ≤ a + b

@@ -4,7 +4,7 @@ use mathlib.Core.List.{List, _++_}
 use Prim.Native.Nat.{ℕ, _+_, _≤_}
 use native.Mathlib.Omega.{arith}
 use lib.ListN.{length, take, length-append, length-take}
-use Rattle.text.specs.Placing.{placeAnswer, placeWrites, PutIfRoom}
+use Rattle.text.specs.Placing.{PutIfRoom}
 use Rattle.text.specs.declared.LineAnswer.{LineAnswer}
 use Rattle.text.proofs.Answers.{Owes}
 use Rattle.text.proofs.Puts.{put-if-room-append, put-front}

@@ -19,7 +19,7 @@ use Rattle.codebook_text.specs.Text.{isLines}
 use Rattle.spectrum.specs.declared.values.Spectrum.{Spectrum}
 use Rattle.spectrum.specs.Values.{refused, unless, ofTexts, ofAnswer, ofFrame}
 use Rattle.spectrum.specs.Lines.{text}
-use Rattle.spectrum.specs.Printed.{printed, EnoughRead, Prints}
+use Rattle.spectrum.specs.Output.{printed, EnoughRead, Prints}
 use Rattle.spectrum.proofs.LongFiles.{long-text-refused}
 
 -- what is the same for all inputs of n bytes and more is known by the first n

@@ -1,5 +1,5 @@
 pub mod Refusals
 pub mod Answers
-pub mod Printed
+pub mod Output
 pub mod LongFiles
 pub mod Inputs

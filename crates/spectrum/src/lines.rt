@@ -28,7 +28,8 @@ pub(crate) fn write_text(spectrum: Spectrum, out: &mut [u8; 512]) -> usize
 // Ten numbers, a line for each, from `at` on; where they end.
 fn write_lines(numbers: [i64; 10], out: &mut [u8], at: usize) -> usize
     requires { ⌜ at + 220 ≤ length (now out) ⌝ }
-    ensures { λ r. ⌜ Appended (now (out .entry)) at (lines numbers) (now (out .exit)) r × (r ≤ at + 220) ⌝ }
+    ensures lines { λ r. ⌜ Appended (now (out .entry)) at (lines numbers) (now (out .exit)) r ⌝ }
+    ensures bound { λ r. ⌜ r ≤ at + 220 ⌝ }
 {
     let mut end = at;
     for i in 0..10 {
@@ -40,7 +41,8 @@ fn write_lines(numbers: [i64; 10], out: &mut [u8], at: usize) -> usize
 // The line of a number.
 fn write_line(x: i64, out: &mut [u8], at: usize) -> usize
     requires { ⌜ at + 22 ≤ length (now out) ⌝ }
-    ensures { λ r. ⌜ Appended (now (out .entry)) at (valueLine x) (now (out .exit)) r × (r ≤ at + 22) ⌝ }
+    ensures line { λ r. ⌜ Appended (now (out .entry)) at (valueLine x) (now (out .exit)) r ⌝ }
+    ensures bound { λ r. ⌜ r ≤ at + 22 ⌝ }
 {
     end_of(value_line(x, out, at), at)
 }

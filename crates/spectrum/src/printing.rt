@@ -5,7 +5,7 @@ ghost use mathlib.Core.Path.{_≡_};
 ghost use Prim.Native.Nat.{_≤_};
 ghost use lib.ListN.{length, take};
 ghost use Rattle.io.specs.Counts.{Counts};
-ghost use Rattle.spectrum.specs.Printed.{Prints};
+ghost use Rattle.spectrum.specs.Output.{Prints};
 
 // All that is printed, to the front of `out`, and how many bytes it is. Each input is lent in a buffer of its own
 // size, with how many bytes of it came.

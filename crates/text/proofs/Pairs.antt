@@ -1,8 +1,7 @@
 -- A number's last two digits after those of its hundreds: the room for both, and the text that they make. Assumes nothing.
-use mathlib.Core.Path.{_≡_, sym}
+use mathlib.Core.Path.{_≡_}
 use mathlib.Core.List.{List, [], _∷_}
 use Prim.Native.Nat.{ℕ, _+_, _/_, _%_, _≤_}
-use native.Mathlib.Omega.{arith}
 use lib.ListN.{length, length-append}
 use Rattle.bits.specs.Ascii.{digitByte}
 use Rattle.text.specs.Text.{decimal}

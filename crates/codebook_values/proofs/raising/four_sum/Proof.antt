@@ -5,7 +5,7 @@ use native.Mathlib.Omega.{arith}
 use lib.IntN.{ℤ, natAbs, _+ℤ_}
 use mir.Syntax.{w64}
 use mir.ValLaws.{toZ-ofZ}
-use Rattle.codebook_values.proofs.Sizes.{back, abs-add-le, lsf-abs-le, four-abs-le}
+use Rattle.codebook_values.proofs.Sizes.{number-back, abs-add-le, lsf-abs-le, four-abs-le}
 use Rattle.codebook_values.proofs.raising.four_sum.Statement.{statement}
 use Rattle.codebook_values.proofs.raising.four_sum.Tie as tie
 
@@ -19,33 +19,33 @@ sum-is c = simp (toZ-ofZ w64 _ (c .before .fits .a), toZ-ofZ w64 _ (c .before .f
 sum2-is : (c : tie.After-sum2) → let a = c .before .before .args in c .sum2 .result ≡ a .a +ℤ a .b +ℤ a .c
 sum2-is c =
     let s = c .before .before in
-    (simp (back (c .before .sum .result) (c .before .sum .ok), toZ-ofZ w64 _ (s .fits .c)) at (c .sum2 .ensures))
+    (simp (number-back (c .before .sum .result) (c .before .sum .ok), toZ-ofZ w64 _ (s .fits .c)) at (c .sum2 .ensures))
     ∙ ap (λ (z : ℤ). z +ℤ s .args .c) (sum-is (c .before))
 
 sum3-is : (c : tie.After-sum3) → let a = c .before .before .before .args in c .sum3 .result ≡ a .a +ℤ a .b +ℤ a .c +ℤ a .d
 sum3-is c =
     let s = c .before .before .before in
-    (simp (back (c .before .sum2 .result) (c .before .sum2 .ok), toZ-ofZ w64 _ (s .fits .d)) at (c .sum3 .ensures))
+    (simp (number-back (c .before .sum2 .result) (c .before .sum2 .ok), toZ-ofZ w64 _ (s .fits .d)) at (c .sum3 .ensures))
     ∙ ap (λ (z : ℤ). z +ℤ s .args .d) (sum2-is (c .before))
 
 sum-requires-2 : tie.Need-sum-requires-2
 sum-requires-2 c κs =
     let a = c .before .args in
     let h : natAbs (c .sum .result) ≤ 8000000000 = rw (sum-is c) (omega (arith, lsf-abs-le, abs-add-le (a .a) (a .b))) in
-    simp (back (c .sum .result) (c .sum .ok), toZ-ofZ w64 _ (c .before .fits .c)) (omega (arith, lsf-abs-le, h))
+    simp (number-back (c .sum .result) (c .sum .ok), toZ-ofZ w64 _ (c .before .fits .c)) (omega (arith, lsf-abs-le, h))
 
 sum-requires-3 : tie.Need-sum-requires-3
 sum-requires-3 c κs =
     let a = c .before .before .args in
     let h : natAbs (c .sum2 .result) ≤ 12000000000 = rw (sum2-is c) (omega (arith, lsf-abs-le, abs-add-le (a .a) (a .b), abs-add-le (a .a +ℤ a .b) (a .c))) in
-    simp (back (c .sum2 .result) (c .sum2 .ok), toZ-ofZ w64 _ (c .before .before .fits .d)) (omega (arith, lsf-abs-le, h))
+    simp (number-back (c .sum2 .result) (c .sum2 .ok), toZ-ofZ w64 _ (c .before .before .fits .d)) (omega (arith, lsf-abs-le, h))
 
 returns : tie.Need-returns
 returns c =
     let s = c .before .before .before in
     let a = s .args in
     let e = sum3-is c in
-    simp (back (c .sum3 .result) (c .sum3 .ok)) (e, rw e (four-abs-le (a .a) (a .b) (a .c) (a .d) (s .pre .0) (s .pre .1) (s .pre .2) (s .pre .3)))
+    simp (number-back (c .sum3 .result) (c .sum3 .ok)) (e, rw e (four-abs-le (a .a) (a .b) (a .c) (a .d) (s .pre .0) (s .pre .1) (s .pre .2) (s .pre .3)))
 
 pub four-sum-spec : {M : Type 1} → statement M
 four-sum-spec = tie.close (tie.spec sum-requires sum-requires-2 sum-requires-3 returns)

@@ -7,7 +7,7 @@ use borrow.Author.Needs.{needs}
 use Rattle.codebook.specs.Rows.{lsfFits, allFit}
 use Rattle.codebook.proofs.Entries.{fit-at}
 use Rattle.codebook_values.proofs.FourRows.{and-four}
-use Rattle.codebook_values.proofs.Sizes.{back, lsf-back}
+use Rattle.codebook_values.proofs.Sizes.{number-back, lsf-back}
 use Rattle.codebook_values.proofs.Sums.{four-at}
 use Rattle.codebook_values.proofs.raising.sum_at.Statement.{statement}
 use Rattle.codebook_values.proofs.raising.sum_at.Tie as tie
@@ -72,7 +72,7 @@ returns c =
     let f = fit s in
     let p = s .pre .0 in
     let e = simp (lsf-back (entry-a s) (f .0), lsf-back (entry-b s) (f .1), lsf-back (entry-c s) (f .2), lsf-back (entry-d s) (f .3)) at (c .four-sum .ensures .0) in
-    simp (back (c .four-sum .result) (c .four-sum .ok))
+    simp (number-back (c .four-sum .result) (c .four-sum .ok))
     (e ∙ sym (four-at (a .a .now) (a .b .now) (a .c .now) (a .d .now) (a .k) (p .0) (p .1) (p .2) (p .3)), c .four-sum .ensures .1)
 
 pub sum-at-spec : {M : Type 1} → statement M

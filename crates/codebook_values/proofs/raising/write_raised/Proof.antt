@@ -10,7 +10,7 @@ use mir.Val.{toZ, ofZ}
 use borrow.Author.Needs.{needs}
 use Rattle.bits.proofs.Front.{front-all}
 use Rattle.codebook_values.specs.Values.{addedFour, larger, spacing, raised, rowsValues}
-use Rattle.codebook_values.proofs.Sizes.{back, abs-add-le, abs-larger-le}
+use Rattle.codebook_values.proofs.Sizes.{number-back, abs-add-le, abs-larger-le}
 use Rattle.codebook_values.proofs.Sums.{four-length}
 use Rattle.codebook_values.proofs.Turns.{raised-length, raised-more}
 use Rattle.codebook_values.proofs.raising.write_raised.Statement.{statement}
@@ -48,7 +48,7 @@ ten s = let p = s .pre .0 in four-length 10 _ _ _ _ (p .0) (p .1) (p .2) (p .3)
 
 -- the value of a turn by its sum, by the four rows, and its size
 value-sum : (c : tie.After-larger Inv-loop μ-loop) → c .larger .result ≡ larger (c .before .sum-at .result) (toZ w64 (c .before .before .before .loop .least))
-value-sum c = simp (back (c .before .sum-at .result) (c .before .sum-at .ok)) at (c .larger .ensures)
+value-sum c = simp (number-back (c .before .sum-at .result) (c .before .sum-at .ok)) at (c .larger .ensures)
 
 value-is : (c : tie.After-larger Inv-loop μ-loop) →
     let l = c .before .before .before in
@@ -62,7 +62,7 @@ value-le c =
 
 sum-requires : tie.Need-sum-requires Inv-loop μ-loop
 sum-requires c κs =
-    let h : natAbs (toZ w64 (ofZ w64 (c .larger .result))) ≤ 20000000000 = rw (back (c .larger .result) (c .larger .ok)) (omega (arith, value-le c)) in
+    let h : natAbs (toZ w64 (ofZ w64 (c .larger .result))) ≤ 20000000000 = rw (number-back (c .larger .result) (c .larger .ok)) (omega (arith, value-le c)) in
     (h, omega arith)
 
 add-k : tie.Need-add-k Inv-loop μ-loop
@@ -77,8 +77,8 @@ loop-again c =
     let L = v .before .before .before .loop in
     let s = v .before .before .before .before in
     let y = toZ w64 (ofZ w64 (v .larger .result)) in
-    let r : y ≡ v .larger .result = back (v .larger .result) (v .larger .ok) in
-    let next : toZ w64 (ofZ w64 (c .sum .result)) ≡ y +ℤ spacing = back (c .sum .result) (c .sum .ok) ∙ c .sum .ensures in
+    let r : y ≡ v .larger .result = number-back (v .larger .result) (v .larger .ok) in
+    let next : toZ w64 (ofZ w64 (c .sum .result)) ≡ y +ℤ spacing = number-back (c .sum .result) (c .sum .ok) ∙ c .sum .ensures in
     let h : L .k < length (sums s) = omega (arith, ten s) in
     let n = raised-more (sums s) (s .args .out .now) (L .out) (toZ w64 (L .least)) y (L .k) h (omega arith) (r ∙ value-is v) (L .inv .2) (L .inv .4) in
     (omega arith, search needs, rw next (n .0), rw (next, r) (omega (arith, value-le v, abs-add-le (v .larger .result) spacing)), n .1)

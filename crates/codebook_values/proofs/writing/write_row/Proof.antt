@@ -8,7 +8,7 @@ use lib.IntN.{pos}
 use borrow.Author.Needs.{needs}
 use borrow.Author.Tests.{eq-eqb, ne-eqb}
 use Rattle.bits.proofs.Front.{front-more, front-all}
-use Rattle.codebook_values.proofs.Sizes.{back}
+use Rattle.codebook_values.proofs.Sizes.{number-back}
 use Rattle.codebook_values.proofs.Answers.{written-owes, seven-owes}
 use Rattle.codebook_values.proofs.writing.write_row.Statement.{statement}
 use Rattle.codebook_values.proofs.writing.write_row.Tie as tie
@@ -51,7 +51,7 @@ loop-again c =
     let a = c .before .before .before .before .args in
     let h : L .i < length (a .out .now) = omega arith in
     let m : L .i < length (a .row .now) = omega arith in
-    (omega arith, search needs, rw (L .inv .2, back _ (c .out .given)) (front-more (a .row .now) (a .out .now) (L .i) (pos 0) h m))
+    (omega arith, search needs, rw (L .inv .2, number-back _ (c .out .given)) (front-more (a .row .now) (a .out .now) (L .i) (pos 0) h m))
 
 same-length : tie.Need-same-length Inv-loop μ-loop
 same-length c = search needs

@@ -6,7 +6,6 @@ use native.Mathlib.Omega.{arith}
 use lib.ListN.{take, drop}
 use Rattle.hear.specs.Call.{textBefore}
 use Rattle.hear.proofs.Buffer.{pending-none, pending-next, text-append}
-use borrow.Author.Needs.{needs}
 use Rattle.hear.proofs.printing.make_room.Statement.{statement}
 use Rattle.hear.proofs.printing.make_room.Tie as tie
 

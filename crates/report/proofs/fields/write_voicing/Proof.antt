@@ -1,6 +1,5 @@
 -- `report::fields::write_voicing` meets its contract: dashes, or three numbers. Assumes nothing.
 use mathlib.Core.Path.{_∙_}
-use mathlib.Core.List.{_++_}
 use native.Mathlib.Omega.{arith}
 use borrow.Author.Needs.{needs}
 use Rattle.report.proofs.Lines.{part-append, part-within}

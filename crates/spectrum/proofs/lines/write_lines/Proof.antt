@@ -7,12 +7,12 @@ use native.Mathlib.Omega.{arith}
 use lib.ListN.{length, getD, take}
 use lib.Seq.{take-all}
 use lib.IntN.{pos}
-use Rattle.codebook_values.proofs.Sizes.{back}
+use Rattle.codebook_values.proofs.Sizes.{number-back}
 use Rattle.spectrum.specs.Lines.{lines}
 use Rattle.report.specs.Lines.{valueLine}
 use Rattle.text.specs.Placing.{Appended}
 use Rattle.text.proofs.Puts.{appended-none, appended-append}
-use Rattle.spectrum.proofs.Printed.{lines-more}
+use Rattle.spectrum.proofs.Output.{lines-more}
 use borrow.Author.Needs.{needs}
 use Rattle.spectrum.proofs.lines.write_lines.Statement.{statement}
 use Rattle.spectrum.proofs.lines.write_lines.Tie as tie
@@ -52,7 +52,7 @@ loop-again c =
     let x = getD (s .t1) (L .i) (pos 0) in
     let h : L .i < length (s .t1) = omega arith in
     let e : Appended (L .out) (L .end) (valueLine x) (w .write-line .last .1 .0) (w .write-line .result) =
-    rw (back x (w .before .before .write-line-arg .given)) at (w .write-line .ensures .0) in
+    rw (number-back x (w .before .before .write-line-arg .given)) at (w .write-line .ensures .0) in
     let m : lines (take (L .i + 1) (s .t1)) ≡ lines (take (L .i) (s .t1)) ++ valueLine x = rw add-one (lines-more (s .t1) (L .i) (pos 0) h) in
     let b = w .write-line .ensures .1 in
     (omega arith, L .inv .1, search needs, omega (arith, b), rw m (appended-append _ _ _ _ _ _ _ _ (L .inv .4) e))

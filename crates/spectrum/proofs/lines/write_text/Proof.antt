@@ -6,7 +6,7 @@ use Rattle.spectrum.specs.Lines.{lines}
 use Rattle.report.specs.Lines.{refusalLine}
 use Rattle.text.proofs.Puts.{appended-append}
 use Rattle.text.proofs.Additions.{line-added}
-use Rattle.spectrum.proofs.Printed.{text-refused, text-values, counted}
+use Rattle.spectrum.proofs.Output.{text-refused, text-values, counted}
 use Rattle.spectrum.proofs.lines.write_text.Statement.{statement}
 use Rattle.spectrum.proofs.lines.write_text.Tie as tie
 
