@@ -1,11 +1,10 @@
 -- `text::bytes::place` meets its contract: the test tells whether there is room. Assumes nothing.
-use borrow.Author.Needs.{needs}
 use Rattle.text.proofs.Answers.{short-owes, room-owes, test-short, test-room}
 use Rattle.text.proofs.bytes.place.Statement.{statement}
 use Rattle.text.proofs.bytes.place.Tie as tie
 
 is-too-short-requires : tie.Need-is-too-short-requires
-is-too-short-requires c κs = search needs
+is-too-short-requires c κs = tt
 
 returns : tie.Need-returns
 returns c =
@@ -19,7 +18,7 @@ append-requires c κs =
     test-room _ _ _ _ (e .before .is-too-short .ensures) (e .if1 .left)
 
 same-length : tie.Need-same-length
-same-length c = search needs
+same-length c = c .before .before .append .kept .1 .0
 
 returns-2 : tie.Need-returns-2
 returns-2 c =

@@ -1,8 +1,8 @@
 -- `text::decimal::write_long` meets its contract: the last two digits of a number stand after those of its hundreds. It ends because the
 -- number falls. Assumes nothing.
+use mathlib.Core.Path.{_∙_}
 use Prim.Native.Nat.{ℕ, _<_}
 use native.Mathlib.Omega.{arith}
-use borrow.Author.Needs.{needs}
 use borrow.Fn.Kinds.{In}
 use borrow.Fn.PlainCycle.{Measures, is, falls, and}
 use Rattle.text.proofs.Pairs.{decimal-length-more, decimal-put}
@@ -32,7 +32,7 @@ write-hundreds-requires : (t : ℕ) → lts.Need-write-hundreds-requires (claims
 write-hundreds-requires t c κs = omega arith
 
 same-length : (t : ℕ) → lts.Need-same-length (claims t) (at·t t) own.Post
-same-length t c = search needs
+same-length t c = c .before .before .write-hundreds .kept .1 .0
 
 returns : (t : ℕ) → lts.Need-returns (claims t) (at·t t) own.Post
 returns t c = c .before .before .write-hundreds .ensures
@@ -43,7 +43,7 @@ write-long-requires t c κs =
     (omega arith, (omega arith, omega (arith, decimal-length-more (s .args .n) (omega arith))))
 
 cast-write-pair : (t : ℕ) → lts.Need-cast-write-pair (claims t) (at·t t) own.Post
-cast-write-pair t c = search needs
+cast-write-pair t c = record { fits = omega arith }
 
 write-pair-requires : (t : ℕ) → lts.Need-write-pair-requires (claims t) (at·t t) own.Post
 write-pair-requires t c κs =
@@ -52,7 +52,9 @@ write-pair-requires t c κs =
     (omega arith, omega (arith, d .write-long .ensures .0, decimal-length-more (s .args .n) (omega arith)))
 
 same-length-2 : (t : ℕ) → lts.Need-same-length-2 (claims t) (at·t t) own.Post
-same-length-2 t c = search needs
+same-length-2 t c =
+    let w = c .before .before in
+    w .write-pair .kept .1 .0 ∙ w .before .before .before .before .write-long .kept .1 .0
 
 returns-2 : (t : ℕ) → lts.Need-returns-2 (claims t) (at·t t) own.Post
 returns-2 t c =

@@ -1,18 +1,18 @@
 -- `text::decimal::write_decimal` meets its contract: each case has its digits. Assumes nothing.
+use mathlib.Core.Path.{_∙_}
 use native.Mathlib.Omega.{arith}
-use borrow.Author.Needs.{needs}
 use Rattle.text.proofs.Pairs.{decimal-length-more, decimal-put}
 use Rattle.text.proofs.decimal.write_decimal.Statement.{statement}
 use Rattle.text.proofs.decimal.write_decimal.Tie as tie
 
 cast-write-small : tie.Need-cast-write-small
-cast-write-small c = search needs
+cast-write-small c = record { fits = omega arith }
 
 write-small-requires : tie.Need-write-small-requires
 write-small-requires c κs = omega arith
 
 same-length : tie.Need-same-length
-same-length c = search needs
+same-length c = c .before .before .write-small .kept .1 .0
 
 returns : tie.Need-returns
 returns c = c .before .before .write-small .ensures
@@ -21,7 +21,7 @@ write-hundreds-requires : tie.Need-write-hundreds-requires
 write-hundreds-requires c κs = omega arith
 
 same-length-2 : tie.Need-same-length-2
-same-length-2 c = search needs
+same-length-2 c = c .before .before .write-hundreds .kept .1 .0
 
 returns-2 : tie.Need-returns-2
 returns-2 c = c .before .before .write-hundreds .ensures
@@ -32,7 +32,7 @@ write-hundreds-requires-2 c κs =
     (omega arith, omega arith, omega (arith, decimal-length-more (s .args .n) (omega arith)))
 
 cast-write-pair : tie.Need-cast-write-pair
-cast-write-pair c = search needs
+cast-write-pair c = record { fits = omega arith }
 
 write-pair-requires : tie.Need-write-pair-requires
 write-pair-requires c κs =
@@ -41,7 +41,9 @@ write-pair-requires c κs =
     (omega arith, omega (arith, d .write-hundreds2 .ensures .0, decimal-length-more (s .args .n) (omega arith)))
 
 same-length-3 : tie.Need-same-length-3
-same-length-3 c = search needs
+same-length-3 c =
+    let w = c .before .before in
+    w .write-pair .kept .1 .0 ∙ w .before .before .before .before .write-hundreds2 .kept .1 .0
 
 returns-3 : tie.Need-returns-3
 returns-3 c =
@@ -54,7 +56,7 @@ write-long-requires : tie.Need-write-long-requires
 write-long-requires c κs = omega arith
 
 same-length-4 : tie.Need-same-length-4
-same-length-4 c = search needs
+same-length-4 c = c .before .before .write-long .kept .1 .0
 
 returns-4 : tie.Need-returns-4
 returns-4 c = c .before .before .write-long .ensures

@@ -1,12 +1,12 @@
 -- `text::decimal::write_hundreds` meets its contract: two digits after at most two. Assumes nothing.
+use mathlib.Core.Path.{_∙_}
 use native.Mathlib.Omega.{arith}
-use borrow.Author.Needs.{needs}
 use Rattle.text.proofs.Pairs.{decimal-length-more, decimal-put}
 use Rattle.text.proofs.decimal.write_hundreds.Statement.{statement}
 use Rattle.text.proofs.decimal.write_hundreds.Tie as tie
 
 cast-write-small : tie.Need-cast-write-small
-cast-write-small c = search needs
+cast-write-small c = record { fits = omega arith }
 
 write-small-requires : tie.Need-write-small-requires
 write-small-requires c κs =
@@ -14,7 +14,7 @@ write-small-requires c κs =
     (omega arith, omega (arith, decimal-length-more (s .args .n) (s .pre .0)))
 
 cast-write-pair : tie.Need-cast-write-pair
-cast-write-pair c = search needs
+cast-write-pair c = record { fits = omega arith }
 
 write-pair-requires : tie.Need-write-pair-requires
 write-pair-requires c κs =
@@ -23,7 +23,9 @@ write-pair-requires c κs =
     (omega arith, omega (arith, d .write-small .ensures .0, decimal-length-more (s .args .n) (s .pre .0)))
 
 same-length : tie.Need-same-length
-same-length c = search needs
+same-length c =
+    let w = c .before .before in
+    w .write-pair .kept .1 .0 ∙ w .before .before .before .before .write-small .kept .1 .0
 
 returns : tie.Need-returns
 returns c =

@@ -1,8 +1,8 @@
 -- `text::decimal::write_pair` meets its contract: the second store leaves the first. Assumes nothing.
-use Prim.Native.Nat.{_/_, _%_}
+use mathlib.Core.Path.{_∙_}
+use Prim.Native.Nat.{_+_, _/_, _%_}
 use native.Mathlib.Omega.{arith}
-use lib.ListN.{length-set}
-use borrow.Author.Needs.{needs}
+use lib.ListN.{set, length-set}
 use Rattle.bits.specs.Ascii.{digitByte}
 use Rattle.text.proofs.Puts.{pair-put}
 use Rattle.text.proofs.decimal.write_pair.Statement.{statement}
@@ -29,7 +29,9 @@ add-result : tie.Need-add-result
 add-result c = omega arith
 
 same-length : tie.Need-same-length
-same-length c = search needs
+same-length c =
+    let a = c .args in
+    length-set (set (a .out .now) (a .at) (digitByte (a .n / 10))) (a .at + 1) (digitByte (a .n % 10)) ∙ length-set (a .out .now) (a .at) (digitByte (a .n / 10))
 
 returns : tie.Need-returns
 returns c =

@@ -1,6 +1,6 @@
 -- `text::decimal::write_small` meets its contract: a number below ten has one digit, one below a hundred two. Assumes nothing.
 use native.Mathlib.Omega.{arith}
-use borrow.Author.Needs.{needs}
+use lib.ListN.{length-set}
 use Rattle.bits.specs.Ascii.{digitByte}
 use Rattle.text.proofs.Decimals.{decimal-one, decimal-two}
 use Rattle.text.proofs.Puts.{byte-put}
@@ -8,7 +8,7 @@ use Rattle.text.proofs.decimal.write_small.Statement.{statement}
 use Rattle.text.proofs.decimal.write_small.Tie as tie
 
 add-out : tie.Need-add-out
-add-out c = search needs
+add-out c = omega arith
 
 slice-write-out : tie.Need-slice-write-out
 slice-write-out c =
@@ -17,10 +17,12 @@ slice-write-out c =
     omega (arith, p)
 
 add-result : tie.Need-add-result
-add-result c = search needs
+add-result c = omega arith
 
 same-length : tie.Need-same-length
-same-length c = search needs
+same-length c =
+    let a = c .before .before .args in
+    length-set (a .out .now) (a .at) (digitByte (a .n))
 
 returns : tie.Need-returns
 returns c =
@@ -36,7 +38,7 @@ write-pair-requires c κs =
     (s .pre .0, omega (arith, p))
 
 same-length-2 : tie.Need-same-length-2
-same-length-2 c = search needs
+same-length-2 c = c .before .before .write-pair .kept .1 .0
 
 returns-2 : tie.Need-returns-2
 returns-2 c =

@@ -1,5 +1,5 @@
 -- `text::fields::counted_number` meets its contract: the test tells whether there is room for name and digits. Assumes nothing.
-use mathlib.Core.Path.{_≡_}
+use mathlib.Core.Path.{_≡_, _∙_}
 use mathlib.Core.List.{_++_}
 use Prim.Native.Nat.{_+_}
 use native.Mathlib.Omega.{arith}
@@ -7,7 +7,6 @@ use lib.ListN.{length, take}
 use lib.Seq.{length-take-le}
 use mir.Syntax.{w8}
 use borrow.Kind.Array.{eInt, good-length}
-use borrow.Author.Needs.{needs}
 use Rattle.text.specs.Text.{decimal}
 use Rattle.text.proofs.Answers.{short-owes, room-owes, test-short, test-room}
 use Rattle.text.proofs.Decimals.{decimal-length}
@@ -21,13 +20,13 @@ size : (c : tie.Start) → length (c .args .name) ≡ 16
 size c = good-length (eInt w8) 16 (c .args .name) _ (c .good .0)
 
 length-of-requires : tie.Need-length-of-requires
-length-of-requires c κs = search needs
+length-of-requires c κs = tt
 
 add-is-too-short : tie.Need-add-is-too-short
 add-is-too-short c = omega (arith, c .length-of .ensures, decimal-length 19 (c .before .before .args .n) (omega arith))
 
 is-too-short-requires : tie.Need-is-too-short-requires
-is-too-short-requires c κs = search needs
+is-too-short-requires c κs = tt
 
 returns : tie.Need-returns
 returns c =
@@ -61,7 +60,9 @@ write-decimal-requires c κs =
     omega (arith, n, w .write-name .ensures .0, l .length-of .ensures, room)
 
 same-length : tie.Need-same-length
-same-length c = search needs
+same-length c =
+    let d = c .before .before in
+    d .write-decimal .kept .1 .0 ∙ d .before .before .before .before .write-name .kept .1 .1 .0
 
 returns-2 : tie.Need-returns-2
 returns-2 c =

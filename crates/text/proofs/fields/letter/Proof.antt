@@ -6,7 +6,6 @@ use native.Mathlib.Omega.{arith}
 use lib.ListN.{length, take}
 use mir.Syntax.{w8}
 use borrow.Kind.Array.{eInt, good-length}
-use borrow.Author.Needs.{needs}
 use Rattle.text.proofs.Answers.{short-owes, room-owes, test-short, test-room}
 use Rattle.text.proofs.Widths.{within-le, field-is, field-length-within}
 use Rattle.text.proofs.fields.letter.Statement.{statement}
@@ -20,13 +19,13 @@ fits : (c : tie.After-within-name) → c .within-name .result ≤ 16
 fits c = omega (arith, c .within-name .ensures, within-le (c .before .before .args .width))
 
 within-name-requires : tie.Need-within-name-requires
-within-name-requires c κs = search needs
+within-name-requires c κs = tt
 
 add-is-too-short : tie.Need-add-is-too-short
 add-is-too-short c = omega (arith, fits c)
 
 is-too-short-requires : tie.Need-is-too-short-requires
-is-too-short-requires c κs = search needs
+is-too-short-requires c κs = tt
 
 returns : tie.Need-returns
 returns c =
@@ -45,7 +44,7 @@ write-letter-requires c κs =
     (fits (t .before), test-room _ _ _ _ (t .is-too-short .ensures) (e .if1 .left))
 
 same-length : tie.Need-same-length
-same-length c = search needs
+same-length c = c .before .before .write-letter .kept .1 .1 .1 .0
 
 returns-2 : tie.Need-returns-2
 returns-2 c =

@@ -6,7 +6,6 @@ use lib.ListN.{length, take}
 use lib.Seq.{length-take-le}
 use mir.Syntax.{w8}
 use borrow.Kind.Array.{eInt, good-length}
-use borrow.Author.Needs.{needs}
 use Rattle.text.proofs.Widths.{within-le, within-is}
 use Rattle.text.proofs.fields.name.Statement.{statement}
 use Rattle.text.proofs.fields.name.Tie as tie
@@ -19,7 +18,7 @@ fits : (c : tie.After-within-name) → c .within-name .result ≤ 16
 fits c = omega (arith, c .within-name .ensures, within-le (c .before .before .args .width))
 
 within-name-requires : tie.Need-within-name-requires
-within-name-requires c κs = search needs
+within-name-requires c κs = tt
 
 array-share-prefix-name : tie.Need-array-share-prefix-name
 array-share-prefix-name c = omega (arith, fits c, size (c .before .before))
@@ -31,10 +30,10 @@ slice-aggregate-place c =
     sym (length-take-le (w .within-name .result) (s .args .t1) (omega (arith, fits w, size s)))
 
 place-requires : tie.Need-place-requires
-place-requires c κs = search needs
+place-requires c κs = tt
 
 same-length : tie.Need-same-length
-same-length c = search needs
+same-length c = c .before .before .place .kept .1 .0
 
 returns : tie.Need-returns
 returns c =

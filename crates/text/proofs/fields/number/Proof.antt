@@ -6,7 +6,6 @@ use native.Mathlib.Omega.{arith}
 use lib.ListN.{length, take}
 use mir.Syntax.{w8}
 use borrow.Kind.Array.{eInt, good-length}
-use borrow.Author.Needs.{needs}
 use Rattle.text.specs.Text.{decimal}
 use Rattle.text.proofs.Answers.{room-owes, test-room}
 use Rattle.text.proofs.Decimals.{decimal-length}
@@ -33,19 +32,19 @@ digits : (c : tie.Start) → length (decimal (c .args .n)) ≤ 20
 digits c = decimal-length 19 (c .args .n) (omega arith)
 
 within-name-requires : tie.Need-within-name-requires
-within-name-requires c κs = search needs
+within-name-requires c κs = tt
 
 add-is-too-short : tie.Need-add-is-too-short
 add-is-too-short c = omega (arith, fits c)
 
 is-too-short-requires : tie.Need-is-too-short-requires
-is-too-short-requires c κs = search needs
+is-too-short-requires c κs = tt
 
 counted-number-requires : tie.Need-counted-number-requires
 counted-number-requires c κs = fits (c .before .before .before)
 
 same-length : tie.Need-same-length
-same-length c = search needs
+same-length c = c .before .before .counted-number .kept .1 .1 .1 .0
 
 returns : tie.Need-returns
 returns c =
@@ -62,7 +61,7 @@ write-number-requires c κs =
     (fits w, omega (arith, digits s, test-room (length (a .out .now)) (a .at) (w .within-name .result + 20) (t .is-too-short .result) (t .is-too-short .ensures) (e .if1 .left)))
 
 same-length-2 : tie.Need-same-length-2
-same-length-2 c = search needs
+same-length-2 c = c .before .before .write-number .kept .1 .1 .1 .0
 
 returns-2 : tie.Need-returns-2
 returns-2 c =

@@ -5,7 +5,6 @@ use lib.ListN.{length, take}
 use lib.Seq.{length-take-le}
 use mir.Syntax.{w8}
 use borrow.Kind.Array.{eInt, good-length}
-use borrow.Author.Needs.{needs}
 use Rattle.text.proofs.names.write_name.Statement.{statement}
 use Rattle.text.proofs.names.write_name.Tie as tie
 
@@ -14,7 +13,9 @@ taken : (c : tie.Start) → length (take (c .args .width) (c .args .t1)) ≡ c .
 taken c = length-take-le (c .args .width) (c .args .t1) (omega (arith, good-length (eInt w8) 16 (c .args .t1) _ (c .good .0)))
 
 array-share-prefix-name : tie.Need-array-share-prefix-name
-array-share-prefix-name c = search needs
+array-share-prefix-name c =
+    let s = c .before in
+    omega (arith, good-length (eInt w8) 16 (s .args .t1) _ (s .good .0))
 
 slice-aggregate-append : tie.Need-slice-aggregate-append
 slice-aggregate-append c = sym (taken (c .before .before))
@@ -23,7 +24,7 @@ append-requires : tie.Need-append-requires
 append-requires c κs = omega (arith, taken (c .before .before .before))
 
 same-length : tie.Need-same-length
-same-length c = search needs
+same-length c = c .before .before .append .kept .1 .0
 
 returns : tie.Need-returns
 returns c = c .before .before .append .ensures

@@ -1,11 +1,10 @@
 -- `text::names::write_number` meets its contract: the digits stand after the name. Assumes nothing.
-use mathlib.Core.Path.{_≡_}
+use mathlib.Core.Path.{_≡_, _∙_}
 use native.Mathlib.Omega.{arith}
 use lib.ListN.{length, take}
 use lib.Seq.{length-take-le}
 use mir.Syntax.{w8}
 use borrow.Kind.Array.{eInt, good-length}
-use borrow.Author.Needs.{needs}
 use Rattle.text.specs.Text.{decimal}
 use Rattle.text.proofs.Puts.{put-append}
 use Rattle.text.proofs.names.write_number.Statement.{statement}
@@ -24,7 +23,9 @@ write-decimal-requires c κs =
     omega (arith, w .write-name .ensures .0, taken (w .before .before .before))
 
 same-length : tie.Need-same-length
-same-length c = search needs
+same-length c =
+    let d = c .before .before in
+    d .write-decimal .kept .1 .0 ∙ d .before .before .before .before .write-name .kept .1 .1 .0
 
 returns : tie.Need-returns
 returns c =

@@ -6,20 +6,19 @@ use lib.IntN.{pos}
 use lib.Signed.{ltZ}
 use mir.Syntax.{w64}
 use mir.ValLaws.{toZ-ofZ}
-use borrow.Author.Needs.{needs}
-use Rattle.text.specs.Text.{ascii, decimal, signed}
+use Rattle.text.specs.Text.{ascii, decimal, sign, signed}
 use Rattle.text.proofs.Sizes.{sign-negative, sign-other}
 use Rattle.text.proofs.signs.signed.Statement.{statement}
 use Rattle.text.proofs.signs.signed.Tie as tie
 
 absolute-requires : tie.Need-absolute-requires
-absolute-requires c κs = search needs
+absolute-requires c κs = tt
 
 number-requires : tie.Need-number-requires
-number-requires c κs = search needs
+number-requires c κs = tt
 
 same-length : tie.Need-same-length
-same-length c = search needs
+same-length c = c .before .before .number .kept .1 .1 .1 .0
 
 returns : tie.Need-returns
 returns c =
@@ -33,13 +32,13 @@ returns c =
     rw e at (d .number .ensures)
 
 absolute-requires-2 : tie.Need-absolute-requires-2
-absolute-requires-2 c κs = search needs
+absolute-requires-2 c κs = tt
 
 number-requires-2 : tie.Need-number-requires-2
-number-requires-2 c κs = search needs
+number-requires-2 c κs = tt
 
 same-length-2 : tie.Need-same-length-2
-same-length-2 c = search needs
+same-length-2 c = c .before .before .number2 .kept .1 .1 .1 .0
 
 returns-2 : tie.Need-returns-2
 returns-2 c =
