@@ -102,13 +102,4 @@ returns c = c .send .ensures ∙ whole (c .before .before .before) .0 .0
 pub print-text-spec : {M : Type 1} → statement M
 print-text-spec =
     tie.close
-    (tie.spec
-    first-line-requires
-    end-of-requires
-    print-frames-requires
-    make-room-requires
-    last-line-requires
-    end-of-requires-2
-    send-requires
-    same-length
-    returns)
+    (tie.spec first-line-requires end-of-requires print-frames-requires make-room-requires last-line-requires end-of-requires-2 send-requires same-length returns)

@@ -48,7 +48,8 @@ same-length c =
     let d3 = d4 .before .before .before .before in
     let d2 = d3 .before .before .before .before in
     let d1 = d2 .before .before .before .before in
-    d7 .put-letter3 .kept .1 .1 .1 .0 ∙ d6 .put-byte .kept .1 .1 .1 .0 ∙ d5 .put-letter2 .kept .1 .1 .1 .0 ∙ d4 .put-level2 .kept .1 .1 .1 .0 ∙ d3 .put-level .kept .1 .1 .1 .0 ∙ d2 .write-set .kept .1 .0 ∙ d1 .put-letter .kept .1 .1 .1 .0
+    let levels = d4 .put-level2 .kept .1 .1 .1 .0 ∙ d3 .put-level .kept .1 .1 .1 .0 ∙ d2 .write-set .kept .1 .0 ∙ d1 .put-letter .kept .1 .1 .1 .0 in
+    d7 .put-letter3 .kept .1 .1 .1 .0 ∙ d6 .put-byte .kept .1 .1 .1 .0 ∙ d5 .put-letter2 .kept .1 .1 .1 .0 ∙ levels
 
 returns : tie.Need-returns
 unfolding resultText

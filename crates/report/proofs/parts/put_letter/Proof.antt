@@ -20,7 +20,8 @@ returns : tie.Need-returns
 returns c =
     let d = c .before .before .before in
     let a = d .before .before .before .args in
-    (owed-put (take (a .width) (a .name) ++ (a .letter ∷ [])) (a .at) (a .line .now) _ _ _ (d .letter .ensures) (c .end-of .ensures), field-le (a .name) (a .width) (a .letter ∷ []) 1 (omega arith))
+    let p = owed-put (take (a .width) (a .name) ++ (a .letter ∷ [])) (a .at) (a .line .now) _ _ _ (d .letter .ensures) (c .end-of .ensures) in
+    (p, field-le (a .name) (a .width) (a .letter ∷ []) 1 (omega arith))
 
 pub put-letter-spec : {M : Type 1} → statement M
 put-letter-spec = tie.close (tie.spec letter-requires end-of-requires same-length returns)

@@ -22,7 +22,8 @@ returns : tie.Need-returns
 returns c =
     let d = c .before .before .before in
     let a = d .before .before .before .args in
-    (owed-put (take (a .width) (a .name) ++ decimal (a .n)) (a .at) (a .line .now) _ _ _ (d .number .ensures) (c .end-of .ensures), field-le (a .name) (a .width) (decimal (a .n)) 20 (decimal-length 19 (a .n) (omega arith)))
+    let p = owed-put (take (a .width) (a .name) ++ decimal (a .n)) (a .at) (a .line .now) _ _ _ (d .number .ensures) (c .end-of .ensures) in
+    (p, field-le (a .name) (a .width) (decimal (a .n)) 20 (decimal-length 19 (a .n) (omega arith)))
 
 pub put-number-spec : {M : Type 1} → statement M
 put-number-spec = tie.close (tie.spec number-requires end-of-requires same-length returns)

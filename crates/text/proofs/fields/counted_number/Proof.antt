@@ -1,7 +1,7 @@
 -- `text::fields::counted_number` meets its contract: the test tells whether there is room for name and digits. Assumes nothing.
 use mathlib.Core.Path.{_≡_, _∙_}
 use mathlib.Core.List.{_++_}
-use Prim.Native.Nat.{_+_}
+use Prim.Native.Nat.{_+_, _≤_}
 use native.Mathlib.Omega.{arith}
 use lib.ListN.{length, take}
 use lib.Seq.{length-take-le}
@@ -38,6 +38,14 @@ returns c =
     short-owes (take (a .width) (a .name) ++ decimal (a .n)) (a .at) (a .out .now)
     (omega (arith, n, l .length-of .ensures, test-short (length (a .out .now)) (a .at) (a .width + l .length-of .result) (t .is-too-short .result) (t .is-too-short .ensures) (c .if1 .taken)))
 
+-- where the test found room
+room : (c : tie.Else1) → let l = c .before .before in let a = l .before .before .args in a .at + (a .width + l .length-of .result) ≤ length (a .out .now)
+room c =
+    let t = c .before in
+    let l = t .before in
+    let a = l .before .before .args in
+    test-room (length (a .out .now)) (a .at) (a .width + l .length-of .result) (t .is-too-short .result) (t .is-too-short .ensures) (c .if1 .left)
+
 write-name-requires : tie.Need-write-name-requires
 write-name-requires c κs =
     let e = c .before in
@@ -45,7 +53,7 @@ write-name-requires c κs =
     let l = t .before in
     let s = l .before .before in
     let a = s .args in
-    (s .pre, omega (arith, test-room (length (a .out .now)) (a .at) (a .width + l .length-of .result) (t .is-too-short .result) (t .is-too-short .ensures) (e .if1 .left)))
+    (s .pre, omega (arith, room e))
 
 write-decimal-requires : tie.Need-write-decimal-requires
 write-decimal-requires c κs =
@@ -56,8 +64,7 @@ write-decimal-requires c κs =
     let s = l .before .before in
     let a = s .args in
     let n = length-take-le (a .width) (a .name) (omega (arith, s .pre, size s)) in
-    let room = test-room (length (a .out .now)) (a .at) (a .width + l .length-of .result) (t .is-too-short .result) (t .is-too-short .ensures) (e .if1 .left) in
-    omega (arith, n, w .write-name .ensures .0, l .length-of .ensures, room)
+    omega (arith, n, w .write-name .ensures .0, l .length-of .ensures, room e)
 
 same-length : tie.Need-same-length
 same-length c =
@@ -74,9 +81,8 @@ returns-2 c =
     let s = l .before .before in
     let a = s .args in
     let n = field-length (a .name) (size s) (a .width) (decimal (a .n)) (s .pre) in
-    let room = test-room (length (a .out .now)) (a .at) (a .width + l .length-of .result) (t .is-too-short .result) (t .is-too-short .ensures) (e .if1 .left) in
-    let p = put-append (a .out .now) _ _ (a .at) _ _ (take (a .width) (a .name)) (decimal (a .n)) (omega (arith, room)) (w .write-name .ensures) (d .write-decimal .ensures) in
-    room-owes (take (a .width) (a .name) ++ decimal (a .n)) (a .at) (a .out .now) _ _ (omega (arith, n, l .length-of .ensures, room)) p
+    let p = put-append (a .out .now) _ _ (a .at) _ _ (take (a .width) (a .name)) (decimal (a .n)) (omega (arith, room e)) (w .write-name .ensures) (d .write-decimal .ensures) in
+    room-owes (take (a .width) (a .name) ++ decimal (a .n)) (a .at) (a .out .now) _ _ (omega (arith, n, l .length-of .ensures, room e)) p
 
 pub counted-number-spec : {M : Type 1} → statement M
 counted-number-spec =

@@ -37,11 +37,18 @@ returns c =
     short-owes (take (a .width) (a .name) ++ (a .letter ∷ [])) (a .at) (a .out .now)
     (omega (arith, n, test-short (length (a .out .now)) (a .at) (w .within-name .result + 1) (t .is-too-short .result) (t .is-too-short .ensures) (c .if1 .taken)))
 
+-- where the test found room
+room : (c : tie.Else1) → let w = c .before .before in let a = w .before .before .args in a .at + (w .within-name .result + 1) ≤ length (a .out .now)
+room c =
+    let t = c .before in
+    let w = t .before in
+    let a = w .before .before .args in
+    test-room (length (a .out .now)) (a .at) (w .within-name .result + 1) (t .is-too-short .result) (t .is-too-short .ensures) (c .if1 .left)
+
 write-letter-requires : tie.Need-write-letter-requires
 write-letter-requires c κs =
     let e = c .before in
-    let t = e .before in
-    (fits (t .before), test-room _ _ _ _ (t .is-too-short .ensures) (e .if1 .left))
+    (fits (e .before .before), room e)
 
 same-length : tie.Need-same-length
 same-length c = c .before .before .write-letter .kept .1 .1 .1 .0
@@ -57,7 +64,7 @@ returns-2 c =
     let n = field-length-within (a .name) (size s) (a .width) (w .within-name .result) (w .within-name .ensures) (a .letter ∷ []) in
     let p = rw (field-is (a .name) (size s) (a .width) (w .within-name .result) (w .within-name .ensures) (a .letter ∷ [])) at (l .write-letter .ensures) in
     room-owes (take (a .width) (a .name) ++ (a .letter ∷ [])) (a .at) (a .out .now) _ _
-    (omega (arith, n, test-room (length (a .out .now)) (a .at) (w .within-name .result + 1) (t .is-too-short .result) (t .is-too-short .ensures) (e .if1 .left))) p
+    (omega (arith, n, room e)) p
 
 pub letter-spec : {M : Type 1} → statement M
 letter-spec =

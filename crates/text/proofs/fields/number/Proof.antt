@@ -51,14 +51,19 @@ returns c =
     let l = c .before .before in
     rw (text-is (l .before .before .before .before)) at (l .counted-number .ensures)
 
+-- where the test found room
+room : (c : tie.Else1) → let w = c .before .before in let a = w .before .before .args in a .at + (w .within-name .result + 20) ≤ length (a .out .now)
+room c =
+    let t = c .before in
+    let w = t .before in
+    let a = w .before .before .args in
+    test-room (length (a .out .now)) (a .at) (w .within-name .result + 20) (t .is-too-short .result) (t .is-too-short .ensures) (c .if1 .left)
+
 write-number-requires : tie.Need-write-number-requires
 write-number-requires c κs =
     let e = c .before in
-    let t = e .before in
-    let w = t .before in
-    let s = w .before .before in
-    let a = s .args in
-    (fits w, omega (arith, digits s, test-room (length (a .out .now)) (a .at) (w .within-name .result + 20) (t .is-too-short .result) (t .is-too-short .ensures) (e .if1 .left)))
+    let w = e .before .before in
+    (fits w, omega (arith, digits (w .before .before), room e))
 
 same-length-2 : tie.Need-same-length-2
 same-length-2 c = c .before .before .write-number .kept .1 .1 .1 .0
@@ -73,7 +78,7 @@ returns-2 c =
     let a = s .args in
     let n = field-length-within (a .name) (size s) (a .width) (w .within-name .result) (w .within-name .ensures) (decimal (a .n)) in
     room-owes (take (a .width) (a .name) ++ decimal (a .n)) (a .at) (a .out .now) _ _
-    (omega (arith, n, digits s, test-room (length (a .out .now)) (a .at) (w .within-name .result + 20) (t .is-too-short .result) (t .is-too-short .ensures) (e .if1 .left))) (rw (text-is w) at (l .write-number .ensures))
+    (omega (arith, n, digits s, room e)) (rw (text-is w) at (l .write-number .ensures))
 
 pub number-spec : {M : Type 1} → statement M
 number-spec =
