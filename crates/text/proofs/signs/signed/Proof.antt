@@ -6,7 +6,7 @@ use lib.IntN.{pos}
 use lib.Signed.{ltZ}
 use mir.Syntax.{w64}
 use mir.ValLaws.{toZ-ofZ}
-use Rattle.text.specs.Text.{ascii, decimal, sign, signed}
+use Rattle.text.specs.Text.{ascii, decimal, signed}
 use Rattle.text.proofs.Sizes.{sign-negative, sign-other}
 use Rattle.text.proofs.signs.signed.Statement.{statement}
 use Rattle.text.proofs.signs.signed.Tie as tie
