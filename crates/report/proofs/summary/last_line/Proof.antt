@@ -12,25 +12,32 @@ use Rattle.report.proofs.Lines.{Part, part-append, part-within, line-en
 use Rattle.report.proofs.summary.last_line.Statement.{statement}
 use Rattle.report.proofs.summary.last_line.Tie as tie
 
--- where the call began
-abbrev begun : tie.After-put-end → tie.Start
-begun c = c .before .before .before .before .before .before .before .before .before .before .before .before
+-- the calls for the three parts, and where the call began
+module _ (c : tie.After-put-end) where
+  abbrev third : tie.After-put-number3
+  third = c .before .before .before
+
+  abbrev second : tie.After-put-number2
+  second = third .before .before .before
+
+  abbrev first : tie.After-put-number
+  first = second .before .before .before
+
+  abbrev begun : tie.Start
+  begun = first .before .before .before
 
 -- the whole line stands in the buffer
 whole : (c : tie.After-put-end) → let a = begun c .args in
     Part (replicate 144 0) 0 (lastLine (a .frames) (a .repeats) (a .left)) 144 (c .put-end .last .0) (c .put-end .result)
 unfolding lastLine
 whole c =
-    let d3 = c .before .before .before in
-    let d2 = d3 .before .before .before in
-    let d1 = d2 .before .before .before in
-    let a = d1 .before .before .before .args in
+    let a = begun c .args in
     let l : List ℕ = replicate 144 0 in
     let p1 = field "frames=" (decimal (a .frames)) in
     let p2 = field " repeats=" (decimal (a .repeats)) in
     let p3 = field " left=" (decimal (a .left)) in
-    let w2 = part-append l _ _ 0 _ _ _ _ p1 p2 (d1 .put-number .ensures) (d2 .put-number2 .ensures) in
-    let w3 = part-append l _ _ 0 _ _ _ _ (p1 ++ p2) p3 w2 (d3 .put-number3 .ensures) in
+    let w2 = part-append l _ _ 0 _ _ _ _ p1 p2 (first c .put-number .ensures) (second c .put-number2 .ensures) in
+    let w3 = part-append l _ _ 0 _ _ _ _ (p1 ++ p2) p3 w2 (third c .put-number3 .ensures) in
     let w4 = part-append l _ _ 0 _ _ _ 1 (p1 ++ p2 ++ p3) (ascii "\n") w3 (c .put-end .ensures, omega arith) in
     part-within l _ 0 _ 83 144 (p1 ++ p2 ++ p3 ++ ascii "\n") (omega arith) w4
 
@@ -61,12 +68,9 @@ put-end-requires c κs = tt
 array-share-prefix-line : tie.Need-array-share-prefix-line
 array-share-prefix-line c =
     let w = c .before in
-    let d3 = w .before .before .before in
-    let d2 = d3 .before .before .before in
-    let d1 = d2 .before .before .before in
     let a = begun w .args in
     let e = line-end-le (replicate 144 0) _ (lastLine (a .frames) (a .repeats) (a .left)) _ 144 (whole w) (omega arith) in
-    omega (arith, e, w .put-end .kept .0, d3 .put-number3 .kept .1 .1 .1 .0, d2 .put-number2 .kept .1 .1 .1 .0, d1 .put-number .kept .1 .1 .1 .0)
+    omega (arith, e, w .put-end .kept .0, third w .put-number3 .kept .1 .1 .1 .0, second w .put-number2 .kept .1 .1 .1 .0, first w .put-number .kept .1 .1 .1 .0)
 
 slice-aggregate-place : tie.Need-slice-aggregate-place
 slice-aggregate-place c = sym (length-take-le _ _ (array-share-prefix-line (c .before)))
