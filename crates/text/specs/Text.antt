@@ -1,4 +1,4 @@
--- How words and numbers are spelt, in bytes of ASCII. Helpers of the texts that document 01 has printed.
+-- How strings and numbers are spelt, in bytes of ASCII. Helpers of the texts that document 01 has printed.
 use Prim.Native.Nat.{ℕ, zero, suc, _+_, _/_, _%_}
 use Prim.Native.Char.{code}
 use Prim.Native.String.{String, [] as none, _∷_ as _then_}
@@ -8,7 +8,7 @@ use lib.Dec.{ltb}
 use lib.IntN.{ℤ, pos, negsuc, natAbs}
 use Rattle.bits.specs.Ascii.{digitByte}
 
--- the bytes of a word
+-- the bytes of a string
 abbrev pub ascii : String → List ℕ
 ascii none = []
 ascii (c then s) = code c ∷ ascii s
