@@ -1,4 +1,4 @@
-pub mod Every
+pub mod Tests
 pub mod Patterns
 pub mod Count
 pub mod Value

@@ -9,7 +9,7 @@ use native.Mathlib.Omega.{arith}
 use lib.Dec.{T}
 use lib.ListN.{length}
 use Rattle.bits.specs.Bits.{ones, same}
-use Rattle.bits.proofs.Every.{and-left, and-right}
+use Rattle.bits.proofs.Tests.{and-left, and-right}
 use Rattle.bits.proofs.Count.{ones-le}
 
 -- a test at every list of n bits with at most k ones

@@ -1,7 +1,7 @@
 -- Demands 2 and 3 for the calls of the code: their contracts imply the model's step, so the laws for any such calls hold of them.
 -- Assumes nothing.
 use Rattle.order.specs.Order.{defaultOrder}
-use Rattle.order.proofs.Default.{default-order}
+use Rattle.order.proofs.DefaultOrder.{default-order}
 use Rattle.damage.proofs.Neighbours.{seven-neighbours-correctable}
 use Rattle.frame.specs.Packing.{packAnswer, packWrites}
 use Rattle.calls.specs.Calls.{PackStep, ReceiveStep}

@@ -7,7 +7,7 @@ use Prim.Native.Nat.{ℕ}
 use lib.Dec.{eqb}
 use lib.ListN.{length}
 use lib.IntN.{ℤ}
-use Rattle.bits.proofs.Every.{T-true}
+use Rattle.bits.proofs.Tests.{T-true}
 use Rattle.sets.specs.Sets.{indicesIn, inRange}
 use Rattle.sets.specs.declared.Indices.{Indices}
 use Rattle.sets.specs.declared.ParameterSet.{ParameterSet}

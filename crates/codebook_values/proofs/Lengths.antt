@@ -5,7 +5,7 @@ use mathlib.Core.List.{List}
 use lib.Dec.{T}
 use lib.ListN.{length}
 use lib.IntN.{ℤ}
-use Rattle.bits.proofs.Every.{and-right}
+use Rattle.bits.proofs.Tests.{and-right}
 use Rattle.sets.specs.Sets.{indicesIn, indicesFit, voicingFits, inRange}
 use Rattle.sets.specs.declared.ParameterSet.{ParameterSet}
 use Rattle.sets.specs.declared.ParameterSet.the-variants.{Unvoiced, Voiced}

@@ -8,7 +8,7 @@ use mathlib.Core.List.{List}
 use Prim.Native.Nat.{ℕ, _≤_, _<_}
 use lib.Dec.{T, eqb, lit<}
 use Rattle.bits.specs.Bits.{_⊻_, ones}
-use Rattle.bits.proofs.Every.{and-left, and-right}
+use Rattle.bits.proofs.Tests.{and-left, and-right}
 use Rattle.order.specs.Order.{Order, placeOf, logicalBit}
 use Rattle.order.proofs.Frames.{sent-bit, received-bit}
 use Rattle.order.proofs.Refusals.{packed-taken, through-taken}

@@ -5,7 +5,7 @@ use mathlib.Core.Path.{_≡_}
 use mathlib.Core.Bool.{Bool, true, _&&_}
 use Prim.Native.Nat.{ℕ, _+_, _≤_, _<_}
 use lib.Dec.{leb, ltb, ltb→lt, leb→le}
-use Rattle.bits.proofs.Every.{T-true, and-left, and-right}
+use Rattle.bits.proofs.Tests.{T-true, and-left, and-right}
 use Rattle.bits.proofs.Count.{one-set}
 use Rattle.damage.specs.Flips.{Correctable, Within}
 

@@ -8,7 +8,7 @@ use native.Mathlib.Omega.{arith}
 use lib.Dec.{T, leb, ltb, ltb→lt}
 use borrow.Author.Tests.{leb-true}
 use Rattle.bits.specs.Bits.{addOne, ones, cut}
-use Rattle.bits.proofs.Every.{and-left, and-right}
+use Rattle.bits.proofs.Tests.{and-left, and-right}
 use Rattle.order.specs.Order.{placeOf, orderBy, defaultOrder}
 use Rattle.damage.specs.Flips.{logicalFlips, Correctable, Within}
 

@@ -3,7 +3,7 @@
 use mathlib.Core.Path.{_≡_, ap, _∙_}
 use mathlib.Core.Bool.{Bool, false}
 use lib.Dec.{T, lit≤}
-use Rattle.bits.proofs.Every.{and-left, and-right}
+use Rattle.bits.proofs.Tests.{and-left, and-right}
 use Rattle.bits.proofs.Digits.{value-bits}
 use Rattle.pitch.proofs.Codes.{index-back}
 use Rattle.sets.specs.Sets.{indicesFit, voicingFits, inRange}

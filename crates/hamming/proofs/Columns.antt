@@ -6,7 +6,7 @@ use mathlib.Core.List.{List, [], _∷_, _++_, map}
 use Prim.Native.Nat.{ℕ, _≤_, _<_}
 use lib.ListN.{take, getD}
 use Rattle.bits.specs.Bits.{bits, same}
-use Rattle.bits.proofs.Every.{every, every-at}
+use Rattle.bits.proofs.Tests.{every, every-at}
 use Rattle.bits.proofs.Patterns.{same-eq}
 use Rattle.hamming.specs.Word.{checkBits, dataBits, column}
 use Rattle.hamming.proofs.Lengths.{lengths-at}

@@ -8,7 +8,7 @@ use native.Mathlib.Omega.{arith}
 use lib.Dec.{T, eqb, eqb→eq, ltb, ltb→lt}
 use lib.ListN.{length, getD}
 use Rattle.bits.specs.Bits.{bits, same}
-use Rattle.bits.proofs.Every.{every, every-at, and-left}
+use Rattle.bits.proofs.Tests.{every, every-at, and-left}
 use Rattle.hamming.specs.Word.{checkBits, column, Fix, stand, flip, erase, fixOf}
 use Rattle.hamming.specs.Table.{standMark, eraseMark, entryOf}
 use Rattle.hamming.proofs.Lengths.{lengths-at}

@@ -7,7 +7,7 @@ use native.Mathlib.Nat.{mod-lt}
 use lib.Dec.{eqb, eqb→eq}
 use lib.Pow.{pow-pos}
 use Rattle.bits.specs.Bits.{value, bits}
-use Rattle.bits.proofs.Every.{every, every-at, equal-at}
+use Rattle.bits.proofs.Tests.{every, every-at, equal-at}
 use Rattle.bits.proofs.Digits.{bits-mod}
 use Rattle.hamming.specs.Word.{checkBits, dataBits, parity, parityOf}
 use Rattle.hamming.proofs.Lengths.{lengths-at}

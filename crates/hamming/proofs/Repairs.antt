@@ -10,7 +10,7 @@ use lib.Dec.{T, eqb, eqb→eq}
 use lib.ListN.{length}
 use borrow.Author.Tests.{eq-eqb}
 use Rattle.bits.specs.Bits.{_⊕_, ones, value}
-use Rattle.bits.proofs.Every.{and-left, and-right, implies, implies-at}
+use Rattle.bits.proofs.Tests.{and-left, and-right, implies, implies-at}
 use Rattle.bits.proofs.Patterns.{patterns, patterns-at, allPatterns, all-patterns-at}
 use Rattle.hamming.specs.Word.{dataBits, encode, fixOf, decode}
 use Rattle.hamming.specs.declared.Decoded.{Decoded}

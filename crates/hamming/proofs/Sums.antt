@@ -11,7 +11,7 @@ use lib.Bits.{bitXor, xor-lt, xor-shr, xor-mod}
 use lib.ListN.{length, replicate}
 use lib.Pow.{pow-lt}
 use Rattle.bits.specs.Bits.{_⊻_, _⊕_, value, bits, same}
-use Rattle.bits.proofs.Every.{every, every-at}
+use Rattle.bits.proofs.Tests.{every, every-at}
 use Rattle.bits.proofs.Patterns.{same-eq}
 use Rattle.bits.proofs.Digits.{bits-length, value-bits}
 use Rattle.hamming.specs.Word.{flipAt}

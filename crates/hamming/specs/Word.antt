@@ -87,8 +87,8 @@ mend n w erase = Erased
 unfoldable pub decode : ℕ → List Bool → Decoded
 decode n w = mend n w (fixOf n (syndrome n w))
 
--- an outcome that fits a word of n bits, however it was chosen: data below two to the number of data bits, and at most one bit repaired.
+-- an outcome that fits a word of n bits, however it was chosen: data below two to the number of data bits, and no more bits repaired than there are.
 -- A helper of the code above
 abbrev pub Bounded : ℕ → Decoded → Type 0
-Bounded n (Read d k) = (d < 2 ^ dataBits n) × (k ≤ 1)
+Bounded n (Read d k) = (d < 2 ^ dataBits n) × (k ≤ n)
 Bounded n Erased = Unit

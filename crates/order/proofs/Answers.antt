@@ -17,7 +17,7 @@ use Rattle.order.specs.Taking.{bitsUnless, bitsAnswer}
 use Rattle.order.specs.declared.BitsAnswer.the-variants.{Bits, Refused}
 use Rattle.order.proofs.Bytes.{byte-back, padding-is}
 use Rattle.order.proofs.Places.{place-lt}
-use Rattle.order.proofs.Default.{default-order}
+use Rattle.order.proofs.DefaultOrder.{default-order}
 
 -- two bits have no ones where they stand for 0
 ones-value-zero : (x y : Bool) → eqb (ones (x ∷ y ∷ [])) 0 ≡ eqb (value (x ∷ y ∷ [])) 0

@@ -3,7 +3,7 @@ pub mod Entries
 pub mod Places
 pub mod Bytes
 pub mod Frames
-pub mod Default
+pub mod DefaultOrder
 pub mod Gathering
 pub mod Refusals
 pub mod Answers

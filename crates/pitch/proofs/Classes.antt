@@ -9,7 +9,7 @@ use native.Mathlib.Omega.{arith}
 use lib.Dec.{lit<}
 use lib.Count as Count
 use Rattle.bits.specs.Bits.{ones, value, bits}
-use Rattle.bits.proofs.Every.{equal-at}
+use Rattle.bits.proofs.Tests.{equal-at}
 use Rattle.bits.proofs.Digits.{bits-mod}
 use Rattle.pitch.specs.Pitch.{index, byOnes, classOf}
 use Rattle.pitch.specs.declared.PitchClass.the-variants.{Unvoiced, Erased, Voiced}

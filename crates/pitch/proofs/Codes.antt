@@ -7,7 +7,7 @@ use Prim.Native.Nat.{ℕ, _<_}
 use lib.Dec.{T, eqb, eqb→eq, ltb, ltb→lt}
 use lib.ListN.{length}
 use Rattle.bits.specs.Bits.{bits}
-use Rattle.bits.proofs.Every.{and-left, and-right, implies, implies-at, every-at}
+use Rattle.bits.proofs.Tests.{and-left, and-right, implies, implies-at, every-at}
 use Rattle.bits.proofs.Patterns.{all-patterns-at}
 use Rattle.pitch.specs.Pitch.{index, isVoiced, classOf, voicedFrom, codeOf}
 use Rattle.pitch.specs.declared.PitchClass.{PitchClass}

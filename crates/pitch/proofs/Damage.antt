@@ -7,7 +7,7 @@ use Prim.Native.Nat.{ℕ, _≤_, _<_}
 use lib.Dec.{T, eqb, eqb→eq}
 use lib.ListN.{length}
 use Rattle.bits.specs.Bits.{_⊕_, ones, bits}
-use Rattle.bits.proofs.Every.{and-left, and-right, every-at}
+use Rattle.bits.proofs.Tests.{and-left, and-right, every-at}
 use Rattle.bits.proofs.Patterns.{patterns, patterns-at}
 use Rattle.pitch.specs.Pitch.{index, classOf, voicedFrom, codeOf, unvoicedCode}
 use Rattle.pitch.specs.declared.PitchClass.{PitchClass}

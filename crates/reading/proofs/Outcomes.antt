@@ -17,9 +17,9 @@ use Rattle.reading.specs.declared.Reading.the-variants.{Accepted}
 abbrev pub Outcomes : Decoded → Decoded → Decoded → Decoded → Type 0
 Outcomes a b c d = Bounded 8 a × Bounded 6 b × Bounded 7 c × Bounded 7 d
 
--- the data fit their words, and there are at most four repairs
+-- the data fit their words, and no more bits are repaired than the words have
 abbrev pub Bounds : (ua ub uc ud i j k l : ℕ) → Type 0
-Bounds ua ub uc ud i j k l = ((ua < 16) × (ub < 8) × (uc < 16) × (ud < 16)) × (i + j + k + l ≤ 4)
+Bounds ua ub uc ud i j k l = ((ua < 16) × (ub < 8) × (uc < 16) × (ud < 16)) × (i + j + k + l ≤ 28)
 
 -- four words with their data and repaired counts
 module _ (a b c d : Decoded) (ua i ub j uc k ud l : ℕ)

@@ -5,9 +5,9 @@ use mathlib.Core.Bool.{Bool}
 use mathlib.Core.List.{_++_}
 use Prim.Native.Nat.{ℕ, _<_}
 use native.Mathlib.Omega.{arith}
-use lib.Dec.{T, ltb→lt}
+use lib.Dec.{T, lit≤, ltb→lt}
 use Rattle.bits.specs.Bits.{value, cut}
-use Rattle.bits.proofs.Every.{and-both}
+use Rattle.bits.proofs.Tests.{and-both}
 use Rattle.bits.proofs.Value.{value-lt-at}
 use Rattle.pitch.specs.Pitch.{classOf}
 use Rattle.pitch.specs.declared.PitchClass.{PitchClass}
@@ -59,7 +59,7 @@ module _ (g : ℕ → Bool) where
   class-fits : (c : PitchClass) → T (indexFits c) → T (readingFits (byClass g c))
   class-fits class.Unvoiced t =
       words-fit (decode 8 (wordA g)) (decode 6 (wordB g)) (decode 7 (wordC g)) (decode 7 (wordD g))
-      (decode-bounded 8 (wordA g) refl, decode-bounded 6 (wordB g) refl, decode-bounded 7 (wordC g) refl, decode-bounded 7 (wordD g) refl)
+      (decode-bounded 8 (wordA g) (lit≤ tt) refl, decode-bounded 6 (wordB g) (lit≤ tt) refl, decode-bounded 7 (wordC g) (lit≤ tt) refl, decode-bounded 7 (wordD g) (lit≤ tt) refl)
   class-fits class.Erased t = tt
   class-fits (class.Voiced i) t =
       let x = indicesOf g (value (cut g 0 4)) (value (cut g 8 3)) (value (cut g 14 4)) (value (cut g 21 4)) in

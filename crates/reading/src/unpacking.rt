@@ -32,7 +32,7 @@ fn voiced(bits: u64, pitch: u8) -> Reading
 
 // The repaired count of an unvoiced frame: that of its pitch code, and those of its words.
 fn repaired_in(bits: u64, i: u8, j: u8, k: u8, l: u8) -> u8
-    requires { ⌜ i + j + k + l ≤ 4 ⌝ }
+    requires { ⌜ i + j + k + l ≤ 28 ⌝ }
     ensures { λ r. ⌜ r ≡ pitchRepaired (pitchBits (carried 54 bits)) + i + j + k + l ⌝ }
 {
     pitch_repaired(part(bits, 28, 7)) + i + j + k + l

@@ -8,7 +8,7 @@ use native.Mathlib.Omega.{arith}
 use lib.Dec.{eqb, lit<}
 use Rattle.bits.specs.Bits.{value, cut, carried}
 use Rattle.bits.proofs.Digits.{bits-at}
-use Rattle.bits.proofs.Every.{T-true}
+use Rattle.bits.proofs.Tests.{T-true}
 use Rattle.order.specs.Order.{defaultOrder, logicalBit, frameRefusal}
 use Rattle.order.specs.Taking.{bitsUnless, bitsAnswer}
 use Rattle.bits.proofs.Numbers.{carried-back}

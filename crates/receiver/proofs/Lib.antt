@@ -3,4 +3,4 @@ pub mod Refusals
 pub mod Sync
 pub mod Validity
 pub mod Answers
-pub mod Facts
+pub mod Clauses

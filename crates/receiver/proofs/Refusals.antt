@@ -10,7 +10,7 @@ use lib.ListN.{length}
 use borrow.Author.Tests.{eq-eqb}
 use Rattle.bits.specs.Bits.{ones}
 use Rattle.bits.specs.Refusals.{firstRefusal}
-use Rattle.bits.proofs.Every.{true-T}
+use Rattle.bits.proofs.Tests.{true-T}
 use Rattle.bits.proofs.Refusals.{first-append}
 use Rattle.order.specs.Order.{logicalBit, frameTable, frameRefusal}
 use Rattle.order.proofs.Refusals.{frame-taken-only}

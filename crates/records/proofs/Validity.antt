@@ -2,7 +2,7 @@
 -- Assumes nothing.
 use Prim.Native.Nat.{_<_}
 use lib.Dec.{T, ltb, lt→ltb, ltb→lt}
-use Rattle.bits.proofs.Every.{and-both, and-right}
+use Rattle.bits.proofs.Tests.{and-both, and-right}
 use Rattle.sets.specs.Sets.{inRange}
 use Rattle.records.specs.Records.{fresh, valid}
 use Rattle.records.specs.declared.Record.{Record}

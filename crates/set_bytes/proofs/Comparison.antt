@@ -6,7 +6,7 @@ use mathlib.Core.List.{List, [], _∷_, _++_}
 use Prim.Native.Nat.{ℕ}
 use lib.Dec.{T, eqb, eqb→eq}
 use borrow.Author.Tests.{eq-eqb}
-use Rattle.bits.proofs.Every.{and-left, and-right, and-both, T-true}
+use Rattle.bits.proofs.Tests.{and-left, and-right, and-both, T-true}
 use Rattle.set_bytes.specs.SetBytes.{same}
 
 -- a list passes against itself

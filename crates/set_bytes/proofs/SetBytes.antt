@@ -5,7 +5,7 @@ use mathlib.Core.Bool.{Bool, true, false, not, cond, false≢true}
 use mathlib.Core.List.{List}
 use Prim.Native.Nat.{ℕ}
 use lib.ListN.{length}
-use Rattle.bits.proofs.Every.{T-true, true-T}
+use Rattle.bits.proofs.Tests.{T-true, true-T}
 use Rattle.sets.specs.declared.ParameterSet.{ParameterSet}
 use Rattle.sets.specs.declared.ParameterSet.the-variants.{Unvoiced, Voiced}
 use Rattle.set_bytes.specs.SetBytes.{bytesOf, setIn, same, isSet, setUnless, readAnswer}

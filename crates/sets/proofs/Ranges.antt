@@ -5,7 +5,7 @@ use mathlib.Core.List.{[], _∷_}
 use Prim.Native.Nat.{_<_}
 use lib.Dec.{T, ltb, eqb, ltb→lt}
 use borrow.Author.Tests.{lt-ltb}
-use Rattle.bits.proofs.Every.{and-left, chain-at}
+use Rattle.bits.proofs.Tests.{and-left, chain-at}
 use Rattle.sets.specs.Sets.{indicesIn, indicesFit, voicingFits, inRange, sendable}
 use Rattle.sets.specs.declared.Indices.{Indices}
 use Rattle.sets.specs.declared.Voicing.{Voicing}

@@ -4,7 +4,7 @@ use mathlib.Core.Bool.{_&&_}
 use Prim.Native.Nat.{ℕ, _<_}
 use lib.Dec.{T}
 use Rattle.bits.specs.Bits.{value, bits}
-use Rattle.bits.proofs.Every.{T-true, and-left, and-right}
+use Rattle.bits.proofs.Tests.{T-true, and-left, and-right}
 use Rattle.pitch.specs.Pitch.{codeOf}
 use Rattle.pitch.proofs.Codes.{code-lt}
 use Rattle.sets.specs.Sets.{indicesFit, voicingFits, sendable}

@@ -9,7 +9,7 @@ use Rattle.bits.specs.Bits.{bitNum, carried}
 use Rattle.bits.proofs.Numbers.{carried-bit}
 use Rattle.order.specs.Order.{placeOf, orderBy, defaultOrder}
 use Rattle.order.proofs.Places.{entry-lt}
-use Rattle.order.proofs.Default.{default-order}
+use Rattle.order.proofs.DefaultOrder.{default-order}
 use Rattle.order.proofs.place.placed_bit.Statement.{statement}
 use Rattle.order.proofs.place.placed_bit.Tie as tie
 

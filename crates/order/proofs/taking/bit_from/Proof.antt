@@ -4,7 +4,7 @@ use Prim.Native.Nat.{ℕ, suc, _*_, _-_, _/_, _%_, _^_, _<_}
 use native.Mathlib.Omega.{arith}
 use Rattle.bits.specs.Bits.{bitNum, carried}
 use Rattle.bits.proofs.Numbers.{carried-bit}
-use Rattle.order.proofs.Default.{default-place}
+use Rattle.order.proofs.DefaultOrder.{default-place}
 use borrow.Author.Needs.{needs}
 use Rattle.order.proofs.taking.bit_from.Statement.{statement}
 use Rattle.order.proofs.taking.bit_from.Tie as tie

@@ -3,7 +3,7 @@ use mathlib.Core.List.{List, [], _∷_}
 use Prim.Native.Nat.{ℕ}
 use lib.ListN.{getD}
 use borrow.Author.Needs.{needs}
-use Rattle.bits.proofs.Every.{equal-at}
+use Rattle.bits.proofs.Tests.{equal-at}
 use Rattle.pitch.specs.Pitch.{index}
 use Rattle.pitch.proofs.class.index_of.Statement.{statement}
 use Rattle.pitch.proofs.class.index_of.Tie as tie

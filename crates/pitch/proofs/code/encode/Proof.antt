@@ -5,7 +5,7 @@ use Prim.Native.Nat.{ℕ, _<_, suc-le-suc}
 use lib.ListN.{getD}
 use borrow.Author.Needs.{needs}
 use borrow.Author.Tests.{lt-ltb, le-ltb}
-use Rattle.bits.proofs.Every.{equal-at}
+use Rattle.bits.proofs.Tests.{equal-at}
 use Rattle.pitch.specs.Pitch.{voicedFrom, codeOf, codeAnswer}
 use Rattle.pitch.specs.declared.CodeAnswer.the-variants.{Code}
 use Rattle.pitch.proofs.code.encode.Statement.{statement}

@@ -2,7 +2,8 @@
 use mathlib.Core.Path.{_≡_, refl, ap, _∙_, subst⁻¹}
 use mathlib.Core.Bool.{Bool}
 use mathlib.Core.List.{List}
-use Prim.Native.Nat.{ℕ}
+use Prim.Native.Nat.{ℕ, _≤_}
+use lib.Dec.{lit≤}
 use lib.ListN.{length}
 use Rattle.hamming.specs.Word.{decode, Bounded}
 use Rattle.hamming.specs.declared.Decoded.{Decoded}
@@ -66,15 +67,15 @@ module _ (at-d : tie.After-decode4) where
   read-d = at-d .decode4 .ensures ∙ ap (decode 7) (bits-back g 21 7 _ (at-d .before .part4 .ensures .0))
 
 -- an outcome that a word is read as fits it
-fits : (n : ℕ) (w : List Bool) (r : Decoded) → length w ≡ n → r ≡ decode n w → Bounded n r
-fits n w r h e = subst⁻¹ (Bounded n) e (decode-bounded n w h)
+fits : (n : ℕ) (w : List Bool) (r : Decoded) → 1 ≤ n → length w ≡ n → r ≡ decode n w → Bounded n r
+fits n w r h l e = subst⁻¹ (Bounded n) e (decode-bounded n w h l)
 
 from-words-requires : tie.Need-from-words-requires
 from-words-requires c κs = (
-  fits 8 (wordA (g c)) _ refl (read-a c),
-  fits 6 (wordB (g c)) _ refl (read-b c),
-  fits 7 (wordC (g c)) _ refl (read-c c),
-  fits 7 (wordD (g c)) _ refl (read-d c),
+  fits 8 (wordA (g c)) _ (lit≤ tt) refl (read-a c),
+  fits 6 (wordB (g c)) _ (lit≤ tt) refl (read-b c),
+  fits 7 (wordC (g c)) _ (lit≤ tt) refl (read-c c),
+  fits 7 (wordD (g c)) _ (lit≤ tt) refl (read-d c),
 )
 
 returns : tie.Need-returns

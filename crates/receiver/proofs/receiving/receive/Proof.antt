@@ -3,7 +3,7 @@ use mathlib.Core.Path.{sym, ap, _∙_}
 use lib.Dec.{eqb}
 use Prim.Native.Nat.{_%_}
 use borrow.Author.Needs.{needs}
-use Rattle.bits.proofs.Every.{true-T}
+use Rattle.bits.proofs.Tests.{true-T}
 use Rattle.reading.specs.Reading.{readingFits}
 use Rattle.reading.proofs.Ranges.{read-fits}
 use Rattle.receiver.specs.Steps.{step}

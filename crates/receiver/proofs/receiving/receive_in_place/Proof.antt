@@ -50,7 +50,7 @@ use Rattle.records.specs.declared.Record.{Record}
 use Rattle.receiver.specs.declared.Received.{Received}
 use Rattle.records.proofs.Record as rec
 use Rattle.records.proofs.Record.Laws as rec-laws
-use Rattle.receiver.proofs.Facts.{both-shown}
+use Rattle.receiver.proofs.Clauses.{both-shown}
 use Rattle.receiver.proofs.Received as got
 use Rattle.receiver.proofs.Received.Laws as got-laws
 use Rattle.receiver.proofs.ReceiveAnswer as ans

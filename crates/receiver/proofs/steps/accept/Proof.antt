@@ -2,7 +2,7 @@
 use mathlib.Core.Path.{subst⁻¹}
 use native.Mathlib.Omega.{arith}
 use borrow.Author.Needs.{needs}
-use Rattle.bits.proofs.Every.{T-true}
+use Rattle.bits.proofs.Tests.{T-true}
 use Rattle.sets.proofs.Ranges.{IndexRanges, set-ranges}
 use Rattle.records.proofs.Validity.{valid-g2}
 use Rattle.receiver.specs.Steps.{accepted}

@@ -1,6 +1,6 @@
 -- `receiver::steps::repeat` meets its contract: each part of the result is what its call ensures. Assumes nothing.
 use borrow.Author.Needs.{needs}
-use Rattle.bits.proofs.Every.{T-true}
+use Rattle.bits.proofs.Tests.{T-true}
 use Rattle.records.proofs.Validity.{valid-g2}
 use Rattle.receiver.specs.Steps.{repeated}
 use Rattle.receiver.proofs.steps.repeat.Statement.{statement}

@@ -54,7 +54,7 @@ use Rattle.receiver.specs.declared.Received.{Received}
 use Rattle.receiver.specs.declared.ReceiveAnswer.{ReceiveAnswer}
 use Rattle.records.proofs.Record as rec
 use Rattle.records.proofs.Record.Laws as rec-laws
-use Rattle.receiver.proofs.Facts.{both-heard}
+use Rattle.receiver.proofs.Clauses.{both-known}
 use Rattle.receiver.proofs.Received as got
 use Rattle.receiver.proofs.Received.Laws as got-laws
 use Rattle.receiver.proofs.ReceiveAnswer as ans
@@ -191,7 +191,7 @@ module _ {M : Type 1} (𝓤 : URA M) (H : Heap 𝓤) (A : Atoms 𝓤) (W : Given
         (and-then ! (load ! (from ! (stop !)) (look ! 4 refl)) (and-then ! (load ! (from ! (stop !)) (look ! 9 refl)) (no-more !))) (λ u.
         use1 W (later (some (λ (x : ReceiveAnswer). (Tokens ν l₃ γ ⊛ ‵ (ans.the-row .own x (u ∷ []))) ⊛ raw (Ensured ν l₃ γ x)))) (id⊢ 𝓤 _) $ await ! tt $ pick ! (λ x.
         split ! $ move ! (1 ∷ []) $ use1 W (some (Says ν l₃ γ x)) (id⊢ 𝓤 _) $ pick ! (λ ws. split ! $ move ! (1 ∷ []) $
-        use1 W (raw (fact 𝓤 ((x ≡ found .answer) × (ws .0 ≡ found .next)))) (both-heard 𝓤 (x ≡ found .answer) (ws .0 ≡ found .next)) $ heard ! _ (λ e.
+        use1 W (raw (fact 𝓤 ((x ≡ found .answer) × (ws .0 ≡ found .next)))) (both-known 𝓤 (x ≡ found .answer) (ws .0 ≡ found .next)) $ heard ! _ (λ e.
         fsplit ! $ move ! (1 ∷ []) $ drop ! $ move ! (1 ∷ []) $ split ! $ split ! $ move ! (2 ∷ []) $
         -- its answer is put into _4
         facts ! ans.the-row (Is ans.the-row) (shows 𝓤 H A ans.the-row) x (u ∷ []) (λ is-u.

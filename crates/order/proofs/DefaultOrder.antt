@@ -2,7 +2,7 @@
 -- Assumes nothing.
 use mathlib.Core.Path.{_≡_, refl}
 use Prim.Native.Nat.{ℕ, _*_, _%_, _<_}
-use Rattle.bits.proofs.Every.{equal-at}
+use Rattle.bits.proofs.Tests.{equal-at}
 use Rattle.order.specs.Order.{times, Order, placeOf, orderBy, defaultOrder}
 
 -- it is an order
