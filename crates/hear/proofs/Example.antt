@@ -4,7 +4,6 @@ use Rattle.pitch.specs.Pitch.{classOf}
 use Rattle.hamming.specs.Word.{fixOf, decode}
 use Rattle.order.specs.Order.{placeOf, orderBy, defaultOrder, bitAt}
 use Rattle.gain.specs.Levels.{firstLevel}
-use Rattle.frame.specs.Layout.{words, others, unvoicedWords, logical}
 use Rattle.reading.specs.Reading.{read}
 use Rattle.records.specs.Records.{fresh}
 use Rattle.receiver.specs.Steps.{accepted, repeated}
@@ -15,7 +14,7 @@ use Rattle.hear.specs.Call.{recordAfter, answerAt, textBefore, repeatsBe
 use Rattle.hear.specs.Example.{Example}
 
 pub example : Example
-unfolding classOf fixOf decode placeOf orderBy defaultOrder bitAt firstLevel words others unvoicedWords logical read fresh accepted repeated receive
+unfolding classOf fixOf decode placeOf orderBy defaultOrder bitAt firstLevel read fresh accepted repeated receive
     digits decimal lsfText setText resultText frameLine lastLine
     recordAfter answerAt textBefore repeatsBefore text
 example = refl

@@ -32,7 +32,11 @@ loop-holds c =
     ((refl, omega arith, refl), (b .0, b .1 .0, omega (arith, b .1 .0)), (w, omega (arith, w .0), omega (arith, w .0)))
 
 make-room-requires : tie.Need-make-room-requires Inv-loop μ-loop
-make-room-requires c κs = search needs
+make-room-requires c κs =
+    let l = c .before .before in
+    let i = l .loop .inv in
+    let s = l .before .before .before .before in
+    ((omega (arith, i .0), i .2 .0), (i .0 .2 ∙ s .pre .1, i .2 .1, omega (arith, i .2 .2, i .0, s .pre .0)))
 
 take-frame-requires : tie.Need-take-frame-requires Inv-loop μ-loop
 take-frame-requires c κs =

@@ -70,7 +70,11 @@ print-frames-requires c κs =
     (s .pre .0, search needs, (omega (arith, q .0 .0), q .0 .1))
 
 make-room-requires : tie.Need-make-room-requires
-make-room-requires c κs = search needs
+make-room-requires c κs =
+    let p = c .before .before .before in
+    let f = p .print-frames .ensures in
+    let s = opened p .before .before .before .before in
+    ((omega arith, f .1 .1 .0), (p .print-frames .kept .1 .0 ∙ opened p .first-line .kept .0 ∙ s .pre .1, f .1 .1 .1, omega (arith, f .1 .0)))
 
 last-line-requires : tie.Need-last-line-requires
 last-line-requires c κs = search needs
