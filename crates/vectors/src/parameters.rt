@@ -1,7 +1,8 @@
 // Vectors of parameter sets: their ranges, and their bytes.
 use crate::vector::bit;
+use crate::vector::byte;
 use crate::vector::bytes_agree;
-use crate::vector::count;
+use crate::vector::number;
 use crate::vector::part;
 use crate::vector::refused;
 use set_bytes::SetAnswer;
@@ -55,7 +56,7 @@ fn field_bytes(answer: SetAnswer) -> [u8; 12]
 
 // Kind 23: the set in bytes.
 pub(crate) fn reading_agrees(r: &[u8; 256]) -> bool {
-    let size = count(r[1]);
+    let size = number(r, 1, 1);
     if 12 < size {
         return false;
     }
@@ -63,26 +64,30 @@ pub(crate) fn reading_agrees(r: &[u8; 256]) -> bool {
     bytes_agree(r, 14, &bytes)
 }
 
+// The indices in bytes 2 to 7.
+fn indices_of(r: &[u8; 256]) -> Indices {
+    Indices {
+        l1: byte(r, 2),
+        l2: byte(r, 3),
+        l3: byte(r, 4),
+        l4: byte(r, 5),
+        g2: byte(r, 6),
+        g1: byte(r, 7),
+    }
+}
+
 // The set whose fields are in bytes 1 to 11.
 fn set_of(r: &[u8; 256]) -> ParameterSet {
-    let x = Indices {
-        l1: r[2],
-        l2: r[3],
-        l3: r[4],
-        l4: r[5],
-        g2: r[6],
-        g1: r[7],
-    };
-    let v = Voicing {
-        pitch: r[8],
-        bandpass: r[9],
-        fourier: r[10],
-        aperiodic: r[11],
-    };
-    if r[1] == 0 {
-        return ParameterSet::Unvoiced(x);
+    if byte(r, 1) == 0 {
+        return ParameterSet::Unvoiced(indices_of(r));
     }
-    ParameterSet::Voiced(x, v)
+    let v = Voicing {
+        pitch: byte(r, 8),
+        bandpass: byte(r, 9),
+        fourier: byte(r, 10),
+        aperiodic: byte(r, 11),
+    };
+    ParameterSet::Voiced(indices_of(r), v)
 }
 
 // Kind 24: the bytes of a set.
