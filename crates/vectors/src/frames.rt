@@ -14,22 +14,15 @@ pub(crate) fn frame_agrees(r: &[u8; 256]) -> bool {
     bytes_agree(r, 9, &frame)
 }
 
-// Whether an answer is a refusal or bits as expected.
-fn bits_agree(answer: BitsAnswer, refusal: u8, bits: u64) -> bool {
-    match answer {
-        BitsAnswer::Bits(x) => (refusal == 0) & (bits == x),
-        BitsAnswer::Refused(n) => (refusal == refused(n)) & (bits == 0),
-    }
-}
-
 // Kind 11: the 54 bits of a frame.
 pub(crate) fn logical_agrees(r: &[u8; 256]) -> bool {
     let size = number(r, 1, 1);
-    if 9 < size {
-        return false;
-    }
+    let refusal = byte(r, 11);
     let bits = number(r, 12, 8) as u64;
-    bits_agree(order::logical_bits(part(r, 2, size)), byte(r, 11), bits)
+    match order::logical_bits(part(r, 2, size)) {
+        BitsAnswer::Bits(x) => (size <= 9) & (refusal == 0) & (bits == x),
+        BitsAnswer::Refused(n) => (size <= 9) & (refusal == refused(n)) & (bits == 0),
+    }
 }
 
 // Kind 13: what 54 bits are read as; of an erasure nothing else is told.

@@ -106,13 +106,10 @@ fn received(kind: u8, rec: Record, frame: &[u8]) -> Received {
 // Kinds 9 and 22: receiving; the answer, and the record after it.
 pub(crate) fn receive_agrees(r: &[u8; 256], kind: u8, last: ParameterSet) -> bool {
     let size = number(r, 15, 1);
-    if 9 < size {
-        return false;
-    }
     let received = received(kind, record_of(r, last), part(r, 16, size));
     let answer = received.answer;
     let next = received.next;
-    answer_agrees(r, answer) & record_agrees(r, 45, next)
+    (size <= 9) & answer_agrees(r, answer) & record_agrees(r, 45, next)
 }
 
 // Whether the kinds after a frame of the kind in byte 15 are those in bytes 18 and 19. An accepted frame has the set that the

@@ -9,14 +9,6 @@ use codebook_values::ValuesAnswer;
 use set_bytes::SetAnswer;
 use sets::ParameterSet;
 
-// Values of a set by a codebook: LSF values in kind 18, magnitudes in kind 19.
-fn values(kind: u8, set: ParameterSet, codebook: &[i64], out: &mut [i64]) -> ValuesAnswer {
-    if kind == 18 {
-        return codebook_values::lsf_values(set, codebook, out);
-    }
-    codebook_values::magnitudes(set, codebook, out)
-}
-
 // The refusal in an answer, 0 is none.
 fn refusal_of(answer: ValuesAnswer) -> u8 {
     match answer {
@@ -37,7 +29,11 @@ fn written_agrees(r: &[u8; 256], kind: u8, set: ParameterSet, codebook: &[i64]) 
         return false;
     }
     let mut out = [HELD; 12];
-    let answer = values(kind, set, codebook, &mut out[..room]);
+    let answer = if kind == 18 {
+        codebook_values::lsf_values(set, codebook, &mut out[..room])
+    } else {
+        codebook_values::magnitudes(set, codebook, &mut out[..room])
+    };
     output_agrees(r, answer, &out)
 }
 

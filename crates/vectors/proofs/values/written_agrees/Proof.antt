@@ -14,11 +14,20 @@ returns c = search needs
 array-borrow-prefix-out : tie.Need-array-borrow-prefix-out
 array-borrow-prefix-out c = search needs
 
-slice-aggregate-values : tie.Need-slice-aggregate-values
-slice-aggregate-values c = sym (length-take-le _ _ (c .before .if1 .left))
+slice-aggregate-lsf-values : tie.Need-slice-aggregate-lsf-values
+slice-aggregate-lsf-values c = sym (length-take-le _ _ (c .before .before .if1 .left))
 
-values-requires : tie.Need-values-requires
-values-requires c κs = search needs
+lsf-values-requires : tie.Need-lsf-values-requires
+lsf-values-requires c κs = search needs
+
+array-borrow-prefix-out-2 : tie.Need-array-borrow-prefix-out-2
+array-borrow-prefix-out-2 c = search needs
+
+slice-aggregate-magnitudes : tie.Need-slice-aggregate-magnitudes
+slice-aggregate-magnitudes c = sym (length-take-le _ _ (c .before .before .if1 .left))
+
+magnitudes-requires : tie.Need-magnitudes-requires
+magnitudes-requires c κs = search needs
 
 output-agrees-requires : tie.Need-output-agrees-requires
 output-agrees-requires c κs = search needs
@@ -33,7 +42,10 @@ written-agrees-spec =
     number-requires
     returns
     array-borrow-prefix-out
-    slice-aggregate-values
-    values-requires
+    slice-aggregate-lsf-values
+    lsf-values-requires
+    array-borrow-prefix-out-2
+    slice-aggregate-magnitudes
+    magnitudes-requires
     output-agrees-requires
     returns-2)

@@ -1,12 +1,12 @@
--- `vectors::listed::lent_agrees` is safe: no more numbers are lent than the codebook has. Assumes nothing.
+-- `vectors::calls::lent_agrees` is safe: no more numbers are lent than the codebook has. Assumes nothing.
 use mathlib.Core.Path.{sym}
 use Prim.Native.Nat.{_≤_}
 use native.Mathlib.Omega.{arith}
 use lib.ListN.{length}
 use lib.Seq.{length-take-le}
 use borrow.Author.Needs.{needs}
-use Rattle.vectors.proofs.listed.lent_agrees.Statement.{statement}
-use Rattle.vectors.proofs.listed.lent_agrees.Tie as tie
+use Rattle.vectors.proofs.calls.lent_agrees.Statement.{statement}
+use Rattle.vectors.proofs.calls.lent_agrees.Tie as tie
 
 slice-aggregate-lent : tie.Need-slice-aggregate-lent
 slice-aggregate-lent c =
