@@ -16,17 +16,13 @@ fn signed(x: usize) -> i32
     -1 - (4294967295 - x) as i32
 }
 
-// The refusal, and both codes, as the number of their bytes.
-fn choice_number(answer: CodesAnswer) -> usize {
-    match answer {
-        CodesAnswer::Codes { g2, g1 } => joined(0, g2, g1),
-        CodesAnswer::Refused(n) => joined(refused(n), 0, 0),
-    }
-}
-
-// Kind 8: gain codes chosen.
+// Kind 8: gain codes chosen; the refusal, and both codes.
 pub(crate) fn choice_agrees(r: &[u8; 256]) -> bool {
     let first = signed(number(r, 1, 4));
     let second = signed(number(r, 5, 4));
-    number(r, 10, 3) == choice_number(quantiser::choose(first, second, byte(r, 9)))
+    let answered = match quantiser::choose(first, second, byte(r, 9)) {
+        CodesAnswer::Codes { g2, g1 } => joined(0, g2, g1),
+        CodesAnswer::Refused(n) => joined(refused(n), 0, 0),
+    };
+    number(r, 10, 3) == answered
 }

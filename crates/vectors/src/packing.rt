@@ -11,17 +11,14 @@ use sets::ParameterSet;
 // What each byte of the output holds before a call.
 const HELD: u8 = 165;
 
-// The refusal, and the next sync bit, as the number of their bytes.
-fn pack_number(answer: PackAnswer) -> usize {
-    match answer {
+// Whether the refusal and the next sync bit are those in bytes 14 and 15, and the output afterwards is the one in bytes 16
+// to 31.
+fn packed_agrees(r: &[u8; 256], answer: PackAnswer, out: &[u8; 16]) -> bool {
+    let answered = match answer {
         PackAnswer::Packed(next) => joined(0, 0, bit(next)),
         PackAnswer::Refused(n) => joined(0, refused(n), 0),
-    }
-}
-
-// Whether the answer is the one in bytes 14 and 15, and the output afterwards the one in bytes 16 to 31.
-fn packed_agrees(r: &[u8; 256], answer: PackAnswer, out: &[u8; 16]) -> bool {
-    (number(r, 14, 2) == pack_number(answer)) & bytes_agree(r, 16, out)
+    };
+    (number(r, 14, 2) == answered) & bytes_agree(r, 16, out)
 }
 
 // Kind 1: packing.

@@ -49,14 +49,6 @@ fn write_text(text: &mut [u8; 65536], size: usize, at: usize, skipped: usize, gi
     }
 }
 
-// Reads a text into a buffer: as the LSF codebook in kind 20, as the magnitudes in kind 21.
-fn read(kind: u8, text: &[u8], buffer: &mut [i64]) -> TextAnswer {
-    if kind == 20 {
-        return codebook_text::read_lsf(text, buffer);
-    }
-    codebook_text::read_magnitudes(text, buffer)
-}
-
 // The refusal in an answer, 0 is none.
 fn refusal_of(answer: TextAnswer) -> u8 {
     match answer {
@@ -65,14 +57,20 @@ fn refusal_of(answer: TextAnswer) -> u8 {
     }
 }
 
-// Whether the text at the front of a buffer gives the refusal in byte 72, and the numbers expected.
+// Whether the text at the front of a buffer, read as the LSF codebook in kind 20 and as the magnitudes in kind 21, gives the
+// refusal in byte 72, and the numbers expected.
 fn read_agrees(r: &[u8; 256], kind: u8, text: &[u8; 65536], size: usize, expected: &[i64]) -> bool
     requires { ⌜ (size ≤ 65536) × (length (now expected) ≤ 3201) ⌝ }
 {
     let all: &[u8] = text;
     let room = expected.len();
     let mut buffer = [HELD; 3201];
-    let answer = read(kind, &all[..size], &mut buffer[..room]);
+    let front = &all[..size];
+    let answer = if kind == 20 {
+        codebook_text::read_lsf(front, &mut buffer[..room])
+    } else {
+        codebook_text::read_magnitudes(front, &mut buffer[..room])
+    };
     (byte(r, 72) == refusal_of(answer)) & begins_with(&buffer, expected)
 }
 

@@ -9,17 +9,13 @@ use codebook_values::ValuesAnswer;
 use set_bytes::SetAnswer;
 use sets::ParameterSet;
 
-// The refusal in an answer, 0 is none.
-fn refusal_of(answer: ValuesAnswer) -> u8 {
-    match answer {
-        ValuesAnswer::Written => 0,
-        ValuesAnswer::Refused(n) => refused(n),
-    }
-}
-
 // Whether the refusal in the answer is the one in byte 72, and the output the twelve numbers from byte 74.
 fn output_agrees(r: &[u8; 256], answer: ValuesAnswer, out: &[i64; 12]) -> bool {
-    (byte(r, 72) == refusal_of(answer)) & numbers_agree(r, out)
+    let refusal = match answer {
+        ValuesAnswer::Written => 0,
+        ValuesAnswer::Refused(n) => refused(n),
+    };
+    (byte(r, 72) == refusal) & numbers_agree(r, out)
 }
 
 // Whether the values of a set by a codebook, and their output, are those in bytes 72 to 169.

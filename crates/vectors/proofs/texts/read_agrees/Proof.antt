@@ -7,19 +7,28 @@ use borrow.Author.Needs.{needs}
 use Rattle.vectors.proofs.texts.read_agrees.Statement.{statement}
 use Rattle.vectors.proofs.texts.read_agrees.Tie as tie
 
-slice-aggregate-read : tie.Need-slice-aggregate-read
-slice-aggregate-read c =
+slice-aggregate-front : tie.Need-slice-aggregate-front
+slice-aggregate-front c =
     let h : c .before .before .args .size ≤ length (c .before .before .args .text .now) = search needs in
     sym (length-take-le _ _ h)
 
 array-borrow-prefix-buffer : tie.Need-array-borrow-prefix-buffer
 array-borrow-prefix-buffer c = search needs
 
-slice-aggregate-read-2 : tie.Need-slice-aggregate-read-2
-slice-aggregate-read-2 c = sym (length-take-le _ _ (c .before .before .before .pre .1))
+slice-aggregate-read-lsf : tie.Need-slice-aggregate-read-lsf
+slice-aggregate-read-lsf c = sym (length-take-le _ _ (c .before .before .before .before .pre .1))
 
-read-requires : tie.Need-read-requires
-read-requires c κs = search needs
+read-lsf-requires : tie.Need-read-lsf-requires
+read-lsf-requires c κs = search needs
+
+array-borrow-prefix-buffer-2 : tie.Need-array-borrow-prefix-buffer-2
+array-borrow-prefix-buffer-2 c = search needs
+
+slice-aggregate-read-magnitudes : tie.Need-slice-aggregate-read-magnitudes
+slice-aggregate-read-magnitudes c = sym (length-take-le _ _ (c .before .before .before .before .pre .1))
+
+read-magnitudes-requires : tie.Need-read-magnitudes-requires
+read-magnitudes-requires c κs = search needs
 
 byte-requires : tie.Need-byte-requires
 byte-requires c κs = search needs
@@ -37,10 +46,13 @@ pub read-agrees-spec : {M : Type 1} → statement M
 read-agrees-spec =
     tie.close
     (tie.spec
-    slice-aggregate-read
+    slice-aggregate-front
     array-borrow-prefix-buffer
-    slice-aggregate-read-2
-    read-requires
+    slice-aggregate-read-lsf
+    read-lsf-requires
+    array-borrow-prefix-buffer-2
+    slice-aggregate-read-magnitudes
+    read-magnitudes-requires
     byte-requires
     refusal-of-requires
     begins-with-requires
