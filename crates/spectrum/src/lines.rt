@@ -7,7 +7,6 @@ ghost use mathlib.Core.Path.{_≡_};
 ghost use Prim.Native.Nat.{_+_, _≤_};
 ghost use lib.ListN.{length, take};
 ghost use Rattle.io.specs.Counts.{Counts};
-ghost use Rattle.report.specs.Lines.{valueLine};
 ghost use Rattle.text.specs.Placing.{Appended};
 ghost use Rattle.spectrum.specs.Lines.{lines, text};
 
@@ -33,16 +32,7 @@ fn write_lines(numbers: [i64; 10], out: &mut [u8], at: usize) -> usize
 {
     let mut end = at;
     for i in 0..10 {
-        end = write_line(numbers[i], out, end);
+        end = end_of(value_line(numbers[i], out, end), end);
     }
     end
-}
-
-// The line of a number.
-fn write_line(x: i64, out: &mut [u8], at: usize) -> usize
-    requires { ⌜ at + 22 ≤ length (now out) ⌝ }
-    ensures line { λ r. ⌜ Appended (now (out .entry)) at (valueLine x) (now (out .exit)) r ⌝ }
-    ensures bound { λ r. ⌜ r ≤ at + 22 ⌝ }
-{
-    end_of(value_line(x, out, at), at)
 }

@@ -1,10 +1,7 @@
-// The codebook that a vector gives by a rule, and other lists of numbers in it.
-use crate::vector::long_at;
-use crate::vector::number_at;
+// The codebook that a vector gives by a rule, and lists of numbers.
+use crate::vector::number;
 use crate::vector::signed;
-use crate::vector::wide_at;
-use std::num::wrapping_add_u64;
-ghost use mathlib.Core.Path.{_≡_};
+use std::num::wrapping_add_usize;
 ghost use Prim.Native.Nat.{_≤_};
 ghost use lib.ListN.{length};
 
@@ -12,17 +9,17 @@ ghost use lib.ListN.{length};
 pub(crate) const HELD: i64 = -7;
 
 // What is added to number i for the next one: `jump` after each tenth, otherwise `step`.
-fn added(i: usize, step: u64, jump: u64) -> u64 {
+fn added(i: usize, step: usize, jump: usize) -> usize {
     if i % 10 == 9 { jump } else { step }
 }
 
 // The numbers from `start` on, modulo 2 to the 64th.
-fn ruled(start: u64, step: u64, jump: u64) -> [i64; 3201] {
+fn ruled(start: usize, step: usize, jump: usize) -> [i64; 3201] {
     let mut codebook = [HELD; 3201];
     let mut value = start;
     for i in 0..3201 {
         codebook[i] = signed(value);
-        value = wrapping_add_u64(value, added(i, step, jump));
+        value = wrapping_add_usize(value, added(i, step, jump));
     }
     codebook
 }
@@ -31,54 +28,40 @@ fn ruled(start: u64, step: u64, jump: u64) -> [i64; 3201] {
 fn replace_by(codebook: &mut [i64; 3201], r: &[u8; 256], at: usize)
     requires { ⌜ at ≤ 246 ⌝ }
 {
-    let place = wide_at(r, at) as usize;
+    let place = number(r, at, 2);
     if place < 3201 {
-        codebook[place] = number_at(r, at + 2);
+        codebook[place] = signed(number(r, at + 2, 8));
     }
 }
 
 // The numbers that bytes 18 to 71 give: the rule, and three replacements.
 pub(crate) fn codebook_of(r: &[u8; 256]) -> [i64; 3201] {
-    let mut codebook = ruled(long_at(r, 18), long_at(r, 26), long_at(r, 34));
+    let mut codebook = ruled(number(r, 18, 8), number(r, 26, 8), number(r, 34, 8));
     replace_by(&mut codebook, r, 42);
     replace_by(&mut codebook, r, 52);
     replace_by(&mut codebook, r, 62);
     codebook
 }
 
-// How many of them are lent, by bytes 16 and 17.
-pub(crate) fn size_of(r: &[u8; 256]) -> usize {
-    wide_at(r, 16) as usize
-}
-
-// The first `size` of them; none where there are not so many.
-pub(crate) fn front(codebook: &[i64; 3201], size: usize) -> &[i64] {
-    let all: &[i64] = codebook;
-    if size <= all.len() {
-        return &all[0..size];
-    }
-    &all[0..0]
-}
-
-// Whether two lists of numbers are the same.
-pub(crate) fn is_same(a: &[i64], b: &[i64]) -> bool {
-    if a.len() != b.len() {
-        return false;
-    }
+// Whether these are the first numbers of a buffer.
+pub(crate) fn begins_with(buffer: &[i64; 3201], numbers: &[i64]) -> bool
+    requires { ⌜ length (now numbers) ≤ 3201 ⌝ }
+{
     let mut same = true;
-    for i in 0..a.len() {
-        same = same & (a[i] == b[i]);
+    for i in 0..numbers.len() {
+        same = same & (buffer[i] == numbers[i]);
     }
     same
 }
 
-// The twelve numbers from byte 74.
-pub(crate) fn numbers_of(r: &[u8; 256]) -> [i64; 12]
-    ensures { λ r. ⌜ length r ≡ 12 ⌝ }
-{
-    let mut numbers = [HELD; 12];
-    for k in 0..12 {
-        numbers[k] = number_at(r, 74 + 8 * k);
+// Whether these are the numbers from byte 74; a vector has twelve at most.
+pub(crate) fn numbers_agree(r: &[u8; 256], numbers: &[i64]) -> bool {
+    if 12 < numbers.len() {
+        return false;
     }
-    numbers
+    let mut same = true;
+    for k in 0..numbers.len() {
+        same = same & (numbers[k] == signed(number(r, 74 + 8 * k, 8)));
+    }
+    same
 }

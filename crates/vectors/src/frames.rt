@@ -1,7 +1,7 @@
 // Vectors of the 54 bits of a frame, and of what a frame is read as.
+use crate::vector::byte;
 use crate::vector::bytes_agree;
-use crate::vector::count;
-use crate::vector::long_at;
+use crate::vector::number;
 use crate::vector::part;
 use crate::vector::refused;
 use crate::vector::set_agrees;
@@ -10,34 +10,28 @@ use reading::Reading;
 
 // Kind 10: the frame of 54 bits.
 pub(crate) fn frame_agrees(r: &[u8; 256]) -> bool {
-    let frame = order::place_bits(long_at(r, 1));
+    let frame = order::place_bits(number(r, 1, 8) as u64);
     bytes_agree(r, 9, &frame)
-}
-
-// Whether an answer is a refusal or bits as expected.
-fn bits_agree(answer: BitsAnswer, refusal: u8, bits: u64) -> bool {
-    match answer {
-        BitsAnswer::Bits(x) => (refusal == 0) & (bits == x),
-        BitsAnswer::Refused(n) => (refusal == refused(n)) & (bits == 0),
-    }
 }
 
 // Kind 11: the 54 bits of a frame.
 pub(crate) fn logical_agrees(r: &[u8; 256]) -> bool {
-    let size = count(r[1]);
-    if 9 < size {
-        return false;
+    let size = number(r, 1, 1);
+    let refusal = byte(r, 11);
+    let bits = number(r, 12, 8) as u64;
+    match order::logical_bits(part(r, 2, size)) {
+        BitsAnswer::Bits(x) => (size <= 9) & (refusal == 0) & (bits == x),
+        BitsAnswer::Refused(n) => (size <= 9) & (refusal == refused(n)) & (bits == 0),
     }
-    bits_agree(order::logical_bits(part(r, 2, size)), r[11], long_at(r, 12))
 }
 
 // Kind 13: what 54 bits are read as; of an erasure nothing else is told.
 pub(crate) fn reading_agrees(r: &[u8; 256]) -> bool {
-    let erased = r[9] == 1;
-    match reading::read(long_at(r, 1)) {
+    let erased = byte(r, 9) == 1;
+    match reading::read(number(r, 1, 8) as u64) {
         Reading::Erased => erased,
         Reading::Accepted(set, repaired) => {
-            !erased & set_agrees(r, 10, set) & (r[21] == repaired)
+            !erased & set_agrees(r, 10, set) & (byte(r, 21) == repaired)
         }
     }
 }

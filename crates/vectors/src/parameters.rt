@@ -1,15 +1,14 @@
 // Vectors of parameter sets: their ranges, and their bytes.
 use crate::vector::bit;
+use crate::vector::byte;
 use crate::vector::bytes_agree;
-use crate::vector::count;
+use crate::vector::number;
 use crate::vector::part;
 use crate::vector::refused;
+use crate::vector::set_agrees;
 use set_bytes::SetAnswer;
-use sets::Indices;
 use sets::ParameterSet;
-use sets::Voicing;
-ghost use mathlib.Core.Path.{_≡_};
-ghost use lib.ListN.{length};
+ghost use Prim.Native.Nat.{_≤_};
 
 // Kind 12: the ranges and the indices of a set.
 pub(crate) fn ranges_agree(r: &[u8; 256], set: ParameterSet) -> bool {
@@ -27,16 +26,17 @@ pub(crate) fn ranges_agree(r: &[u8; 256], set: ParameterSet) -> bool {
     bytes_agree(r, 12, &bytes)
 }
 
-// The refusal, and the fields of a set: 1 if voiced, the six indices, pitch, B, F, flag, with 0 for what it lacks.
-fn field_bytes(answer: SetAnswer) -> [u8; 12]
-    ensures { λ r. ⌜ length r ≡ 12 ⌝ }
+// Whether the fields of a set are those from `start`: 1 if voiced, the six indices, pitch, B, F, flag, with 0 for what it lacks.
+fn fields_agree(r: &[u8; 256], start: usize, set: ParameterSet) -> bool
+    requires { ⌜ start ≤ 245 ⌝ }
 {
-    match answer {
-        SetAnswer::Refused(n) => [refused(n), 0, 0, 0, 0, 0, 0, 0, 0, 0, 0, 0],
-        SetAnswer::Set(set) => match set {
-            ParameterSet::Unvoiced(x) => [0, 0, x.l1, x.l2, x.l3, x.l4, x.g2, x.g1, 0, 0, 0, 0],
-            ParameterSet::Voiced(x, v) => [
-                0,
+    match set {
+        ParameterSet::Unvoiced(x) => {
+            let fields = [0, x.l1, x.l2, x.l3, x.l4, x.g2, x.g1, 0, 0, 0, 0];
+            bytes_agree(r, start, &fields)
+        }
+        ParameterSet::Voiced(x, v) => {
+            let fields = [
                 1,
                 x.l1,
                 x.l2,
@@ -48,45 +48,29 @@ fn field_bytes(answer: SetAnswer) -> [u8; 12]
                 v.bandpass,
                 v.fourier,
                 v.aperiodic,
-            ],
-        },
+            ];
+            bytes_agree(r, start, &fields)
+        }
     }
 }
 
 // Kind 23: the set in bytes.
 pub(crate) fn reading_agrees(r: &[u8; 256]) -> bool {
-    let size = count(r[1]);
+    let size = number(r, 1, 1);
+    let refusal = byte(r, 14);
     if 12 < size {
         return false;
     }
-    let bytes = field_bytes(set_bytes::read(part(r, 2, size)));
-    bytes_agree(r, 14, &bytes)
-}
-
-// The set whose fields are in bytes 1 to 11.
-fn set_of(r: &[u8; 256]) -> ParameterSet {
-    let x = Indices {
-        l1: r[2],
-        l2: r[3],
-        l3: r[4],
-        l4: r[5],
-        g2: r[6],
-        g1: r[7],
-    };
-    let v = Voicing {
-        pitch: r[8],
-        bandpass: r[9],
-        fourier: r[10],
-        aperiodic: r[11],
-    };
-    if r[1] == 0 {
-        return ParameterSet::Unvoiced(x);
+    match set_bytes::read(part(r, 2, size)) {
+        SetAnswer::Set(set) => (refusal == 0) & fields_agree(r, 15, set),
+        SetAnswer::Refused(n) => (refusal == refused(n)) & bytes_agree(r, 15, &[0; 11]),
     }
-    ParameterSet::Voiced(x, v)
 }
 
-// Kind 24: the bytes of a set.
+// Kind 24: the bytes of a set. The set is the one in the expected bytes, if its fields are those in bytes 1 to 11.
 pub(crate) fn writing_agrees(r: &[u8; 256]) -> bool {
-    let bytes = set_bytes::write(set_of(r));
-    bytes_agree(r, 12, &bytes)
+    match set_bytes::read(part(r, 12, 11)) {
+        SetAnswer::Set(set) => fields_agree(r, 1, set) & set_agrees(r, 12, set),
+        SetAnswer::Refused(_) => false,
+    }
 }

@@ -1,12 +1,12 @@
 // Vectors of receiving and of a receiver's record.
 use crate::in_place::in_place;
 use crate::vector::bit;
-use crate::vector::bytes_agree;
-use crate::vector::count;
+use crate::vector::byte;
+use crate::vector::joined;
+use crate::vector::number;
 use crate::vector::part;
 use crate::vector::refused;
 use crate::vector::set_agrees;
-use crate::vector::wide_at;
 use receiver::FrameResult;
 use receiver::Kind;
 use receiver::ReceiveAnswer;
@@ -17,7 +17,7 @@ use sets::ParameterSet;
 ghost use Prim.Native.Nat.{_≤_};
 
 // The sixteen kinds by their bits, 1 for a repeat, the oldest most significant.
-fn kinds_of(bits: u32) -> [FrameKind; 16] {
+fn kinds_of(bits: usize) -> [FrameKind; 16] {
     let mut kinds = [FrameKind { repeat: false }; 16];
     let mut left = bits;
     for i in 0..16 {
@@ -29,12 +29,12 @@ fn kinds_of(bits: u32) -> [FrameKind; 16] {
     kinds
 }
 
-// The bits of sixteen kinds.
-fn bits_of(kinds: [FrameKind; 16]) -> u32 {
-    let mut bits: u32 = 0;
+// A byte and the bits of sixteen kinds as the number of their three bytes.
+fn bits_of(before: u8, kinds: [FrameKind; 16]) -> usize {
+    let mut bits = before as usize;
     for i in 0..16 {
         let kind = kinds[i];
-        bits = bits % 32768 * 2 + bit(kind.repeat) as u32;
+        bits = bits % 8388608 * 2 + bit(kind.repeat) as usize;
     }
     bits
 }
@@ -43,8 +43,8 @@ fn bits_of(kinds: [FrameKind; 16]) -> u32 {
 fn record_of(r: &[u8; 256], last: ParameterSet) -> Record {
     Record {
         last,
-        g2: r[12],
-        kinds: kinds_of(wide_at(r, 13)),
+        g2: byte(r, 12),
+        kinds: kinds_of(number(r, 13, 2)),
     }
 }
 
@@ -54,9 +54,7 @@ fn record_agrees(r: &[u8; 256], start: usize, rec: Record) -> bool
 {
     let last = rec.last;
     let kinds = rec.kinds;
-    set_agrees(r, start, last)
-        & (r[start + 11] == rec.g2)
-        & (wide_at(r, start + 12) == bits_of(kinds))
+    set_agrees(r, start, last) & (number(r, start + 11, 3) == bits_of(rec.g2, kinds))
 }
 
 // The number of a result's kind.
@@ -70,20 +68,19 @@ fn number_of(kind: Kind) -> u8 {
 
 // Whether both levels are those in bytes 38 to 41.
 fn levels_agree(r: &[u8; 256], first: u32, second: u32) -> bool {
-    (wide_at(r, 38) == first) & (wide_at(r, 40) == second)
+    (number(r, 38, 2) == first as usize) & (number(r, 40, 2) == second as usize)
 }
 
 // Whether mute, the sync bit and the repaired count are those in bytes 42 to 44.
 fn marks_agree(r: &[u8; 256], mute: bool, sync: bool, repaired: u8) -> bool {
-    let bytes = [bit(mute), bit(sync), repaired];
-    bytes_agree(r, 42, &bytes)
+    number(r, 42, 3) == joined(bit(mute), bit(sync), repaired)
 }
 
 // Whether the result is the one in bytes 26 to 44.
 fn result_agrees(r: &[u8; 256], result: FrameResult) -> bool {
     let kind = result.kind;
     let set = result.set;
-    (r[26] == number_of(kind))
+    (byte(r, 26) == number_of(kind))
         & set_agrees(r, 27, set)
         & levels_agree(r, result.first, result.second)
         & marks_agree(r, result.mute, result.sync, result.repaired)
@@ -91,17 +88,11 @@ fn result_agrees(r: &[u8; 256], result: FrameResult) -> bool {
 
 // Whether the answer is the one in bytes 25 to 44; of a refusal there is only its number.
 fn answer_agrees(r: &[u8; 256], answer: ReceiveAnswer) -> bool {
+    let refusal = byte(r, 25);
     match answer {
-        ReceiveAnswer::Result(result) => (r[25] == 0) & result_agrees(r, result),
-        ReceiveAnswer::Refused(n) => r[25] == refused(n),
+        ReceiveAnswer::Result(result) => (refusal == 0) & result_agrees(r, result),
+        ReceiveAnswer::Refused(n) => refusal == refused(n),
     }
-}
-
-// Whether the answer and the record after it are those in bytes 25 to 58.
-fn received_agrees(r: &[u8; 256], received: Received) -> bool {
-    let answer = received.answer;
-    let next = received.next;
-    answer_agrees(r, answer) & record_agrees(r, 45, next)
 }
 
 // A frame into a record: by value in kind 9, in place in kind 22.
@@ -112,40 +103,41 @@ fn received(kind: u8, rec: Record, frame: &[u8]) -> Received {
     receiver::receive(rec, frame)
 }
 
-// Kinds 9 and 22: receiving.
-pub(crate) fn receive_agrees(r: &[u8; 256], last: ParameterSet) -> bool {
-    let size = count(r[15]);
-    if 9 < size {
-        return false;
-    }
-    received_agrees(r, received(r[0], record_of(r, last), part(r, 16, size)))
+// Kinds 9 and 22: receiving; the answer, and the record after it.
+pub(crate) fn receive_agrees(r: &[u8; 256], kind: u8, last: ParameterSet) -> bool {
+    let size = number(r, 15, 1);
+    let received = received(kind, record_of(r, last), part(r, 16, size));
+    let answer = received.answer;
+    let next = received.next;
+    (size <= 9) & answer_agrees(r, answer) & record_agrees(r, 45, next)
 }
 
-// The record after a frame of the kind in byte 15, an accepted one with the set that the record has already.
-fn next_record(kind: u8, rec: Record) -> Record {
-    if kind == 1 {
-        return records::after_repeat(rec);
-    }
-    let last = rec.last;
-    records::after_accepted(rec, last)
-}
-
-// Whether the kinds after one more are those in bytes 18 and 19.
+// Whether the kinds after a frame of the kind in byte 15 are those in bytes 18 and 19. An accepted frame has the set that the
+// record has already.
 fn next_agrees(r: &[u8; 256], rec: Record) -> bool {
-    let next = next_record(r[15], rec);
+    let last = rec.last;
+    let next = if byte(r, 15) == 1 {
+        records::after_repeat(rec)
+    } else {
+        records::after_accepted(rec, last)
+    };
     let kinds = next.kinds;
-    wide_at(r, 18) == bits_of(kinds)
+    number(r, 18, 2) == bits_of(0, kinds)
 }
 
 // Kind 14: whether a record is valid, whether its kinds mute, and the kinds after one more.
 pub(crate) fn history_agrees(r: &[u8; 256], last: ParameterSet) -> bool {
     let rec = record_of(r, last);
     let kinds = rec.kinds;
-    let bytes = [bit(records::is_valid(rec)), bit(records::is_muted(kinds))];
-    bytes_agree(r, 16, &bytes) & next_agrees(r, rec)
+    let marks = joined(
+        0,
+        bit(records::is_valid(rec)),
+        bit(records::is_muted(kinds)),
+    );
+    (number(r, 16, 2) == marks) & next_agrees(r, rec)
 }
 
 // Kind 15: what a sender and a receiver start with.
 pub(crate) fn fresh_agrees(r: &[u8; 256]) -> bool {
-    (r[1] == bit(frame::fresh_sync())) & record_agrees(r, 2, records::fresh())
+    (byte(r, 1) == bit(frame::fresh_sync())) & record_agrees(r, 2, records::fresh())
 }

@@ -1,16 +1,13 @@
-// Vectors of codebooks in their text form. A vector gives a text by a rule, and the numbers that it leaves by the
-// rule of a codebook.
+// Vectors of codebooks in their text form. A vector gives a text by a rule.
 use crate::codebooks::HELD;
-use crate::codebooks::codebook_of;
-use crate::codebooks::front;
-use crate::codebooks::is_same;
-use crate::codebooks::size_of;
-use crate::vector::count;
+use crate::codebooks::begins_with;
+use crate::vector::byte;
+use crate::vector::number;
 use crate::vector::part;
 use crate::vector::refused;
-use crate::vector::wide_at;
 use codebook_text::TextAnswer;
 ghost use Prim.Native.Nat.{_≤_, _<_};
+ghost use lib.ListN.{length};
 
 // The last digit of a number.
 fn digit(n: usize) -> u8 {
@@ -52,14 +49,6 @@ fn write_text(text: &mut [u8; 65536], size: usize, at: usize, skipped: usize, gi
     }
 }
 
-// Reads a text into a buffer: as the LSF codebook in kind 20, as the magnitudes in kind 21.
-fn read(kind: u8, text: &[u8], buffer: &mut [i64]) -> TextAnswer {
-    if kind == 20 {
-        return codebook_text::read_lsf(text, buffer);
-    }
-    codebook_text::read_magnitudes(text, buffer)
-}
-
 // The refusal in an answer, 0 is none.
 fn refusal_of(answer: TextAnswer) -> u8 {
     match answer {
@@ -68,28 +57,36 @@ fn refusal_of(answer: TextAnswer) -> u8 {
     }
 }
 
-// Whether a text gives the refusal in byte 72, and the numbers that the rule of bytes 16 to 71 gives.
-fn read_agrees(r: &[u8; 256], text: &[u8]) -> bool {
-    let size = size_of(r);
-    if 3201 < size {
-        return false;
-    }
+// Whether the text at the front of a buffer, read as the LSF codebook in kind 20 and as the magnitudes in kind 21, gives the
+// refusal in byte 72, and the numbers expected.
+fn read_agrees(r: &[u8; 256], kind: u8, text: &[u8; 65536], size: usize, expected: &[i64]) -> bool
+    requires { ⌜ (size ≤ 65536) × (length (now expected) ≤ 3201) ⌝ }
+{
+    let all: &[u8] = text;
+    let room = expected.len();
     let mut buffer = [HELD; 3201];
-    let answer = read(r[0], text, &mut buffer[..size]);
-    let expected = codebook_of(r);
-    (r[72] == refusal_of(answer)) & is_same(front(&buffer, size), front(&expected, size))
+    let front = &all[..size];
+    let answer = if kind == 20 {
+        codebook_text::read_lsf(front, &mut buffer[..room])
+    } else {
+        codebook_text::read_magnitudes(front, &mut buffer[..room])
+    };
+    (byte(r, 72) == refusal_of(answer)) & begins_with(&buffer, expected)
 }
 
-// The same of the front of a buffer.
-fn front_agrees(r: &[u8; 256], text: &[u8; 65536], size: usize) -> bool {
-    read_agrees(r, part(text, 0, size))
-}
-
-// Kinds 20 and 21: reading a text of as many bytes as bytes 1 and 2 say.
-pub(crate) fn text_agrees(r: &[u8; 256]) -> bool {
-    let size = wide_at(r, 1) as usize;
-    let at = wide_at(r, 3) as usize;
+// Kinds 20 and 21: reading a text of as many bytes as bytes 1 and 2 say into a buffer of as many numbers as are expected.
+pub(crate) fn text_agrees(r: &[u8; 256], kind: u8, expected: &[i64]) -> bool
+    requires { ⌜ length (now expected) ≤ 3201 ⌝ }
+{
+    let size = number(r, 1, 2);
+    let at = number(r, 3, 2);
     let mut text = io::large_buffer();
-    write_text(&mut text, size, at, count(r[5]), part(r, 74, count(r[6])));
-    front_agrees(r, &text, size)
+    write_text(
+        &mut text,
+        size,
+        at,
+        number(r, 5, 1),
+        part(r, 74, number(r, 6, 1)),
+    );
+    read_agrees(r, kind, &text, size, expected)
 }

@@ -1,54 +1,42 @@
 // Vectors of LSF values and magnitudes.
 use crate::codebooks::HELD;
-use crate::codebooks::codebook_of;
-use crate::codebooks::front;
-use crate::codebooks::is_same;
-use crate::codebooks::numbers_of;
-use crate::codebooks::size_of;
-use crate::vector::count;
+use crate::codebooks::numbers_agree;
+use crate::vector::byte;
+use crate::vector::number;
+use crate::vector::part;
 use crate::vector::refused;
 use codebook_values::ValuesAnswer;
+use set_bytes::SetAnswer;
 use sets::ParameterSet;
 
-// Values of a set by a codebook: LSF values in kind 18, magnitudes in kind 19.
-fn values(kind: u8, set: ParameterSet, codebook: &[i64], out: &mut [i64]) -> ValuesAnswer {
-    if kind == 18 {
-        return codebook_values::lsf_values(set, codebook, out);
-    }
-    codebook_values::magnitudes(set, codebook, out)
-}
-
-// The refusal in an answer, 0 is none.
-fn refusal_of(answer: ValuesAnswer) -> u8 {
-    match answer {
+// Whether the refusal in the answer is the one in byte 72, and the output the twelve numbers from byte 74.
+fn output_agrees(r: &[u8; 256], answer: ValuesAnswer, out: &[i64; 12]) -> bool {
+    let refusal = match answer {
         ValuesAnswer::Written => 0,
         ValuesAnswer::Refused(n) => refused(n),
-    }
-}
-
-// Whether the output is the twelve numbers from byte 74.
-fn output_agrees(r: &[u8; 256], out: &[i64; 12]) -> bool {
-    let numbers = numbers_of(r);
-    is_same(out, &numbers)
+    };
+    (byte(r, 72) == refusal) & numbers_agree(r, out)
 }
 
 // Whether the values of a set by a codebook, and their output, are those in bytes 72 to 169.
-fn written_agrees(r: &[u8; 256], set: ParameterSet, codebook: &[i64]) -> bool {
-    let room = count(r[12]);
+fn written_agrees(r: &[u8; 256], kind: u8, set: ParameterSet, codebook: &[i64]) -> bool {
+    let room = number(r, 12, 1);
     if 12 < room {
         return false;
     }
     let mut out = [HELD; 12];
-    let answer = values(r[0], set, codebook, &mut out[..room]);
-    (r[72] == refusal_of(answer)) & output_agrees(r, &out)
+    let answer = if kind == 18 {
+        codebook_values::lsf_values(set, codebook, &mut out[..room])
+    } else {
+        codebook_values::magnitudes(set, codebook, &mut out[..room])
+    };
+    output_agrees(r, answer, &out)
 }
 
-// Kinds 18 and 19: values, by the codebook that the vector gives.
-pub(crate) fn values_agree(r: &[u8; 256], set: ParameterSet) -> bool {
-    let size = size_of(r);
-    if 3201 < size {
-        return false;
+// Kinds 18 and 19: values of the set in bytes 1 to 11; where these are those of no set, no call agrees.
+pub(crate) fn values_agree(r: &[u8; 256], kind: u8, codebook: &[i64]) -> bool {
+    match set_bytes::read(part(r, 1, 11)) {
+        SetAnswer::Set(set) => written_agrees(r, kind, set, codebook),
+        SetAnswer::Refused(_) => false,
     }
-    let codebook = codebook_of(r);
-    written_agrees(r, set, front(&codebook, size))
 }

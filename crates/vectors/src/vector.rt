@@ -1,13 +1,35 @@
-// The 256 bytes of a vector, and the numbers and sets that stand in them.
+// The 256 bytes of a vector, and the numbers, parts and sets that stand in them.
 use sets::ParameterSet;
-ghost use Prim.Native.Nat.{_+_, _≤_, _<_};
+ghost use Prim.Native.Nat.{_+_, _^_, _≤_, _<_};
 ghost use lib.ListN.{length};
 
+// The byte of this number.
+pub(crate) fn byte(r: &[u8; 256], at: u8) -> u8 {
+    r[at as usize]
+}
+
 // A byte as a count.
-pub(crate) fn count(x: u8) -> usize
+fn count(x: u8) -> usize
     ensures { λ r. ⌜ r < 256 ⌝ }
 {
     x as usize
+}
+
+// The so many bytes from `at` as a number, the high one first.
+pub(crate) fn number(r: &[u8; 256], at: usize, size: usize) -> usize
+    requires { ⌜ (at + size ≤ 256) × (size ≤ 8) ⌝ }
+    ensures { λ n. ⌜ n < 256 ^ size ⌝ }
+{
+    let mut n: usize = 0;
+    for k in 0..size {
+        n = n * 256 + count(r[at + k]);
+    }
+    n
+}
+
+// Three bytes as a number.
+pub(crate) fn joined(high: u8, middle: u8, low: u8) -> usize {
+    high as usize * 65536 + middle as usize * 256 + low as usize
 }
 
 // A bit as a byte.
@@ -20,57 +42,21 @@ pub(crate) fn refused(n: u8) -> u8 {
     if n == 0 { 255 } else { n }
 }
 
-// Two bytes as a number, the high one first.
-fn wide(high: u8, low: u8) -> u32
-    ensures { λ r. ⌜ r < 65536 ⌝ }
-{
-    high as u32 * 256 + low as u32
-}
-
-// The two bytes from `at` as a number.
-pub(crate) fn wide_at(r: &[u8; 256], at: usize) -> u32
-    requires { ⌜ at ≤ 254 ⌝ }
-    ensures { λ r. ⌜ r < 65536 ⌝ }
-{
-    wide(r[at], r[at + 1])
-}
-
-// The four bytes from `at` as a number.
-pub(crate) fn quad_at(r: &[u8; 256], at: usize) -> u64
-    requires { ⌜ at ≤ 252 ⌝ }
-    ensures { λ r. ⌜ r < 4294967296 ⌝ }
-{
-    wide_at(r, at) as u64 * 65536 + wide_at(r, at + 2) as u64
-}
-
-// The eight bytes from `at` as a number.
-pub(crate) fn long_at(r: &[u8; 256], at: usize) -> u64
-    requires { ⌜ at ≤ 248 ⌝ }
-{
-    quad_at(r, at) * 4294967296 + quad_at(r, at + 4)
-}
-
 // A number read as a signed one in two's complement.
-pub(crate) fn signed(x: u64) -> i64 {
+pub(crate) fn signed(x: usize) -> i64 {
     if x < 9223372036854775808 {
         return x as i64;
     }
     -1 - (18446744073709551615 - x) as i64
 }
 
-// The eight bytes from `at` as a signed number.
-pub(crate) fn number_at(r: &[u8; 256], at: usize) -> i64
-    requires { ⌜ at ≤ 248 ⌝ }
+// The part of a vector that has this start and size; nothing where it does not fit.
+pub(crate) fn part(r: &[u8; 256], start: usize, size: usize) -> &[u8]
+    requires { ⌜ start ≤ 256 ⌝ }
 {
-    signed(long_at(r, at))
-}
-
-// The part of some bytes that has this start and size; nothing where it does not fit.
-pub(crate) fn part(s: &[u8], start: usize, size: usize) -> &[u8] {
-    if start < s.len() {
-        if size <= s.len() - start {
-            return &s[start..start + size];
-        }
+    let s: &[u8] = r;
+    if size <= 256 - start {
+        return &s[start..start + size];
     }
     &s[0..0]
 }

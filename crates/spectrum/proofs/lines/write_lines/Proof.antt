@@ -7,10 +7,13 @@ use native.Mathlib.Omega.{arith}
 use lib.ListN.{length, getD, take}
 use lib.Seq.{take-all}
 use lib.IntN.{pos}
+use mir.Syntax.{w64}
+use mir.Val.{toZ, ofZ}
 use Rattle.codebook_values.proofs.Sizes.{number-back}
 use Rattle.spectrum.specs.Lines.{lines}
 use Rattle.report.specs.Lines.{valueLine}
 use Rattle.text.specs.Placing.{Appended}
+use Rattle.text.proofs.Additions.{line-added}
 use Rattle.text.proofs.Puts.{appended-none, appended-append}
 use Rattle.spectrum.proofs.Output.{lines-more}
 use borrow.Author.Needs.{needs}
@@ -28,14 +31,17 @@ loop-holds : tie.Need-loop-holds Inv-loop μ-loop
 unfolding lines
 loop-holds c = (omega arith, search needs, refl, omega arith, appended-none (c .before .args .out .now) (c .before .args .at))
 
-mul-write-line : tie.Need-mul-write-line Inv-loop μ-loop
-mul-write-line c = search needs
+mul-value-line : tie.Need-mul-value-line Inv-loop μ-loop
+mul-value-line c = search needs
 
-array-copy-out-write-line : tie.Need-array-copy-out-write-line Inv-loop μ-loop
-array-copy-out-write-line c = search needs
+array-copy-out-value-line : tie.Need-array-copy-out-value-line Inv-loop μ-loop
+array-copy-out-value-line c = search needs
 
-write-line-requires : tie.Need-write-line-requires Inv-loop μ-loop
-write-line-requires c κs = search needs
+value-line-requires : tie.Need-value-line-requires Inv-loop μ-loop
+value-line-requires c κs = search needs
+
+end-of-requires : tie.Need-end-of-requires Inv-loop μ-loop
+end-of-requires c κs = search needs
 
 add-i : tie.Need-add-i Inv-loop μ-loop
 add-i c = search needs
@@ -45,17 +51,16 @@ loop-less c = search needs
 
 loop-again : tie.Need-loop-again Inv-loop μ-loop
 loop-again c =
-    let w = c .before .before in
-    let l = w .before .before .before .before in
-    let L = l .loop in
-    let s = l .before .before .args in
+    let v = c .before .before .before in
+    let g = v .before .before in
+    let L = g .before .before .loop in
+    let s = g .before .before .before .before .args in
     let x = getD (s .t1) (L .i) (pos 0) in
     let h : L .i < length (s .t1) = omega arith in
-    let e : Appended (L .out) (L .end) (valueLine x) (w .write-line .last .1 .0) (w .write-line .result) =
-    rw (number-back x (w .before .before .write-line-arg .given)) at (w .write-line .ensures .0) in
+    let q = line-added (valueLine (toZ w64 (ofZ w64 x))) (L .out) _ (L .end) 22 _ _ (v .value-line .ensures) (c .end-of .ensures) (omega arith) in
+    let e = rw (number-back x (g .value-line-arg .given)) at (q .0) in
     let m : lines (take (L .i + 1) (s .t1)) ≡ lines (take (L .i) (s .t1)) ++ valueLine x = rw add-one (lines-more (s .t1) (L .i) (pos 0) h) in
-    let b = w .write-line .ensures .1 in
-    (omega arith, L .inv .1, search needs, omega (arith, b), rw m (appended-append _ _ _ _ _ _ _ _ (L .inv .4) e))
+    (omega arith, L .inv .1, search needs, omega (arith, q .1), rw m (appended-append _ _ _ _ _ _ _ _ (L .inv .4) e))
 
 same-length : tie.Need-same-length Inv-loop μ-loop
 same-length c = search needs
@@ -75,9 +80,10 @@ write-lines-spec =
     Inv-loop
     μ-loop
     loop-holds
-    mul-write-line
-    array-copy-out-write-line
-    write-line-requires
+    mul-value-line
+    array-copy-out-value-line
+    value-line-requires
+    end-of-requires
     add-i
     loop-less
     loop-again

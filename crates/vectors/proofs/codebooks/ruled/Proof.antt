@@ -1,5 +1,6 @@
 -- `vectors::codebooks::ruled` is safe and ends: i is at most 3201. Assumes nothing.
-use mathlib.Core.Path.{_≡_}
+use mathlib.Core.Path.{_≡_, refl}
+use native.Mathlib.Omega.{arith}
 use Prim.Native.Nat.{_≤_, _-_}
 use lib.ListN.{length}
 use borrow.Author.Needs.{needs}
@@ -13,7 +14,7 @@ abbrev μ-loop : tie.MeasureT-loop
 μ-loop start step jump codebook₀ value₀ i₀ codebook value i = 3201 - i
 
 loop-holds : tie.Need-loop-holds Inv-loop μ-loop
-loop-holds c = search needs
+loop-holds c = (omega arith, refl)
 
 signed-requires : tie.Need-signed-requires Inv-loop μ-loop
 signed-requires c κs = search needs
@@ -27,8 +28,8 @@ array-set-from-codebook c = search needs
 added-requires : tie.Need-added-requires Inv-loop μ-loop
 added-requires c κs = search needs
 
-wrapping-add-u64-requires : tie.Need-wrapping-add-u64-requires Inv-loop μ-loop
-wrapping-add-u64-requires c κs = search needs
+wrapping-add-usize-requires : tie.Need-wrapping-add-usize-requires Inv-loop μ-loop
+wrapping-add-usize-requires c κs = search needs
 
 add-i : tie.Need-add-i Inv-loop μ-loop
 add-i c = search needs
@@ -53,7 +54,7 @@ ruled-spec =
     mul-codebook
     array-set-from-codebook
     added-requires
-    wrapping-add-u64-requires
+    wrapping-add-usize-requires
     add-i
     loop-less
     loop-again

@@ -5,10 +5,10 @@ use Rattle.vectors.proofs.receiving.bits_of.Statement.{statement}
 use Rattle.vectors.proofs.receiving.bits_of.Tie as tie
 
 abbrev Inv-loop : tie.InvT-loop
-Inv-loop kinds bits₀ i₀ bits i = i ≤ 16
+Inv-loop before kinds bits₀ i₀ bits i = i ≤ 16
 
 abbrev μ-loop : tie.MeasureT-loop
-μ-loop kinds bits₀ i₀ bits i = 16 - i
+μ-loop before kinds bits₀ i₀ bits i = 16 - i
 
 loop-holds : tie.Need-loop-holds Inv-loop μ-loop
 loop-holds c = search needs

@@ -1,63 +1,59 @@
--- `vectors::texts::read_agrees` is safe: at most 3201 numbers of the buffer are lent. Assumes nothing.
+-- `vectors::texts::read_agrees` is safe: no more is lent of the text and of the buffer than they have. Assumes nothing.
 use mathlib.Core.Path.{sym}
+use Prim.Native.Nat.{_≤_}
+use lib.ListN.{length}
 use lib.Seq.{length-take-le}
 use borrow.Author.Needs.{needs}
 use Rattle.vectors.proofs.texts.read_agrees.Statement.{statement}
 use Rattle.vectors.proofs.texts.read_agrees.Tie as tie
 
-size-of-requires : tie.Need-size-of-requires
-size-of-requires c κs = search needs
-
-returns : tie.Need-returns
-returns c = search needs
-
-element-copy-out-read : tie.Need-element-copy-out-read
-element-copy-out-read c = search needs
+slice-aggregate-front : tie.Need-slice-aggregate-front
+slice-aggregate-front c =
+    let h : c .before .before .args .size ≤ length (c .before .before .args .text .now) = search needs in
+    sym (length-take-le _ _ h)
 
 array-borrow-prefix-buffer : tie.Need-array-borrow-prefix-buffer
 array-borrow-prefix-buffer c = search needs
 
-slice-aggregate-read : tie.Need-slice-aggregate-read
-slice-aggregate-read c = sym (length-take-le _ _ (c .before .before .if1 .left))
+slice-aggregate-read-lsf : tie.Need-slice-aggregate-read-lsf
+slice-aggregate-read-lsf c = sym (length-take-le _ _ (c .before .before .before .before .pre .1))
 
-read-requires : tie.Need-read-requires
-read-requires c κs = search needs
+read-lsf-requires : tie.Need-read-lsf-requires
+read-lsf-requires c κs = search needs
 
-codebook-of-requires : tie.Need-codebook-of-requires
-codebook-of-requires c κs = search needs
+array-borrow-prefix-buffer-2 : tie.Need-array-borrow-prefix-buffer-2
+array-borrow-prefix-buffer-2 c = search needs
 
-element-copy-out-result : tie.Need-element-copy-out-result
-element-copy-out-result c = search needs
+slice-aggregate-read-magnitudes : tie.Need-slice-aggregate-read-magnitudes
+slice-aggregate-read-magnitudes c = sym (length-take-le _ _ (c .before .before .before .before .pre .1))
+
+read-magnitudes-requires : tie.Need-read-magnitudes-requires
+read-magnitudes-requires c κs = search needs
+
+byte-requires : tie.Need-byte-requires
+byte-requires c κs = search needs
 
 refusal-of-requires : tie.Need-refusal-of-requires
 refusal-of-requires c κs = search needs
 
-front-requires : tie.Need-front-requires
-front-requires c κs = search needs
+begins-with-requires : tie.Need-begins-with-requires
+begins-with-requires c κs = search needs
 
-front-requires-2 : tie.Need-front-requires-2
-front-requires-2 c κs = search needs
-
-is-same-requires : tie.Need-is-same-requires
-is-same-requires c κs = search needs
-
-returns-2 : tie.Need-returns-2
-returns-2 c = search needs
+returns : tie.Need-returns
+returns c = search needs
 
 pub read-agrees-spec : {M : Type 1} → statement M
 read-agrees-spec =
     tie.close
     (tie.spec
-    size-of-requires
-    returns
-    element-copy-out-read
+    slice-aggregate-front
     array-borrow-prefix-buffer
-    slice-aggregate-read
-    read-requires
-    codebook-of-requires
-    element-copy-out-result
+    slice-aggregate-read-lsf
+    read-lsf-requires
+    array-borrow-prefix-buffer-2
+    slice-aggregate-read-magnitudes
+    read-magnitudes-requires
+    byte-requires
     refusal-of-requires
-    front-requires
-    front-requires-2
-    is-same-requires
-    returns-2)
+    begins-with-requires
+    returns)

@@ -5,32 +5,29 @@ use borrow.Author.Needs.{needs}
 use Rattle.vectors.proofs.values.written_agrees.Statement.{statement}
 use Rattle.vectors.proofs.values.written_agrees.Tie as tie
 
-element-copy-out-count : tie.Need-element-copy-out-count
-element-copy-out-count c = search needs
-
-count-requires : tie.Need-count-requires
-count-requires c κs = search needs
+number-requires : tie.Need-number-requires
+number-requires c κs = search needs
 
 returns : tie.Need-returns
 returns c = search needs
 
-element-copy-out-values : tie.Need-element-copy-out-values
-element-copy-out-values c = search needs
-
 array-borrow-prefix-out : tie.Need-array-borrow-prefix-out
 array-borrow-prefix-out c = search needs
 
-slice-aggregate-values : tie.Need-slice-aggregate-values
-slice-aggregate-values c = sym (length-take-le _ _ (c .before .before .if1 .left))
+slice-aggregate-lsf-values : tie.Need-slice-aggregate-lsf-values
+slice-aggregate-lsf-values c = sym (length-take-le _ _ (c .before .before .if1 .left))
 
-values-requires : tie.Need-values-requires
-values-requires c κs = search needs
+lsf-values-requires : tie.Need-lsf-values-requires
+lsf-values-requires c κs = search needs
 
-element-copy-out-result : tie.Need-element-copy-out-result
-element-copy-out-result c = search needs
+array-borrow-prefix-out-2 : tie.Need-array-borrow-prefix-out-2
+array-borrow-prefix-out-2 c = search needs
 
-refusal-of-requires : tie.Need-refusal-of-requires
-refusal-of-requires c κs = search needs
+slice-aggregate-magnitudes : tie.Need-slice-aggregate-magnitudes
+slice-aggregate-magnitudes c = sym (length-take-le _ _ (c .before .before .if1 .left))
+
+magnitudes-requires : tie.Need-magnitudes-requires
+magnitudes-requires c κs = search needs
 
 output-agrees-requires : tie.Need-output-agrees-requires
 output-agrees-requires c κs = search needs
@@ -42,14 +39,13 @@ pub written-agrees-spec : {M : Type 1} → statement M
 written-agrees-spec =
     tie.close
     (tie.spec
-    element-copy-out-count
-    count-requires
+    number-requires
     returns
-    element-copy-out-values
     array-borrow-prefix-out
-    slice-aggregate-values
-    values-requires
-    element-copy-out-result
-    refusal-of-requires
+    slice-aggregate-lsf-values
+    lsf-values-requires
+    array-borrow-prefix-out-2
+    slice-aggregate-magnitudes
+    magnitudes-requires
     output-agrees-requires
     returns-2)

@@ -1,21 +1,18 @@
--- `vectors::coder::pack_agrees` is safe: at most 16 bytes of the output are lent. Assumes nothing.
+-- `vectors::packing::pack_agrees` is safe: at most 16 bytes of the output are lent. Assumes nothing.
 use mathlib.Core.Path.{sym}
 use lib.Seq.{length-take-le}
 use borrow.Author.Needs.{needs}
-use Rattle.vectors.proofs.coder.pack_agrees.Statement.{statement}
-use Rattle.vectors.proofs.coder.pack_agrees.Tie as tie
+use Rattle.vectors.proofs.packing.pack_agrees.Statement.{statement}
+use Rattle.vectors.proofs.packing.pack_agrees.Tie as tie
 
-element-copy-out-count : tie.Need-element-copy-out-count
-element-copy-out-count c = search needs
-
-count-requires : tie.Need-count-requires
-count-requires c κs = search needs
+number-requires : tie.Need-number-requires
+number-requires c κs = search needs
 
 returns : tie.Need-returns
 returns c = search needs
 
-element-copy-out-pack : tie.Need-element-copy-out-pack
-element-copy-out-pack c = search needs
+byte-requires : tie.Need-byte-requires
+byte-requires c κs = search needs
 
 array-borrow-prefix-out : tie.Need-array-borrow-prefix-out
 array-borrow-prefix-out c = search needs
@@ -36,10 +33,9 @@ pub pack-agrees-spec : {M : Type 1} → statement M
 pack-agrees-spec =
     tie.close
     (tie.spec
-    element-copy-out-count
-    count-requires
+    number-requires
     returns
-    element-copy-out-pack
+    byte-requires
     array-borrow-prefix-out
     slice-aggregate-pack
     pack-requires

@@ -1,4 +1,4 @@
--- `vectors::levels::signed` is safe: no number below 2 ^ 31 taken from -1 leaves the type. Assumes nothing.
+-- `vectors::choosing::signed` is safe: no number below 2 ^ 31 taken from -1 leaves the type. Assumes nothing.
 use Prim.Native.Nat.{ℕ, zero, suc, _-_, _^_, _<_}
 use native.Mathlib.Omega.{arith}
 use lib.IntN.{pos, negsuc, _-ℤ_}
@@ -6,8 +6,8 @@ use mir.Syntax.{w32}
 use mir.Val.{SFits}
 use mir.ValLaws.{toZ-pos}
 use borrow.Author.Needs.{needs}
-use Rattle.vectors.proofs.levels.signed.Statement.{statement}
-use Rattle.vectors.proofs.levels.signed.Tie as tie
+use Rattle.vectors.proofs.choosing.signed.Statement.{statement}
+use Rattle.vectors.proofs.choosing.signed.Tie as tie
 
 cast-result : tie.Need-cast-result
 cast-result c = search needs

@@ -1,16 +1,24 @@
--- `vectors::run` is safe and ends: i is at most 4,000,000, and no more than i vectors differ. Assumes nothing.
+-- `vectors::main` is safe and ends: i is at most 4,000,000, and no more than i vectors differ. Assumes nothing.
+use mathlib.Core.Bool.{Bool, true, false, not}
 use mathlib.Core.Path.{_≡_}
 use Prim.Native.Nat.{_≤_, _-_}
+use native.Mathlib.Omega.{arith}
 use lib.ListN.{length}
+use mir.Val.{boolByte}
 use borrow.Author.Needs.{needs}
-use Rattle.vectors.proofs.run.Statement.{statement}
-use Rattle.vectors.proofs.run.Tie as tie
+use Rattle.vectors.proofs.main.Statement.{statement}
+use Rattle.vectors.proofs.main.Tie as tie
 
 abbrev Inv-loop : tie.InvT-loop
 Inv-loop r₀ differences₀ i₀ r differences i = (i ≤ 4000000) × (length r ≡ 256) × (differences ≤ i)
 
 abbrev μ-loop : tie.MeasureT-loop
 μ-loop r₀ differences₀ i₀ r differences i = 4000000 - i
+
+-- what a vector adds to the differences
+at-most-one : (b : Bool) → boolByte b ≤ 1
+at-most-one true = omega arith
+at-most-one false = omega arith
 
 loop-holds : tie.Need-loop-holds Inv-loop μ-loop
 loop-holds c = search needs
@@ -21,14 +29,20 @@ slice-aggregate-read-full c = search needs
 read-full-requires : tie.Need-read-full-requires Inv-loop μ-loop
 read-full-requires c κs = search needs
 
+tell-requires : tie.Need-tell-requires Inv-loop μ-loop
+tell-requires c κs = search needs
+
 returns : tie.Need-returns Inv-loop μ-loop
 returns c = search needs
 
-difference-requires : tie.Need-difference-requires Inv-loop μ-loop
-difference-requires c κs = search needs
+agrees-requires : tie.Need-agrees-requires Inv-loop μ-loop
+agrees-requires c κs = search needs
+
+cast-differences : tie.Need-cast-differences Inv-loop μ-loop
+cast-differences c = search needs
 
 add-differences : tie.Need-add-differences Inv-loop μ-loop
-add-differences c = search needs
+add-differences c = omega (arith, at-most-one (not (c .agrees .result)))
 
 add-i : tie.Need-add-i Inv-loop μ-loop
 add-i c = search needs
@@ -37,13 +51,16 @@ loop-less : tie.Need-loop-less Inv-loop μ-loop
 loop-less c = search needs
 
 loop-again : tie.Need-loop-again Inv-loop μ-loop
-loop-again c = search needs
+loop-again c = (search needs, search needs, omega (arith, at-most-one (not (c .agrees .result))))
+
+tell-requires-2 : tie.Need-tell-requires-2 Inv-loop μ-loop
+tell-requires-2 c κs = search needs
 
 returns-2 : tie.Need-returns-2 Inv-loop μ-loop
 returns-2 c = search needs
 
-pub run-spec : {M : Type 1} → statement M
-run-spec =
+pub main-spec : {M : Type 1} → statement M
+main-spec =
     tie.close
     (tie.spec
     Inv-loop
@@ -51,10 +68,13 @@ run-spec =
     loop-holds
     slice-aggregate-read-full
     read-full-requires
+    tell-requires
     returns
-    difference-requires
+    agrees-requires
+    cast-differences
     add-differences
     add-i
     loop-less
     loop-again
+    tell-requires-2
     returns-2)
