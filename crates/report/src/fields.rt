@@ -1,8 +1,7 @@
 // The parts of a frame's line, each put where there is room for it, and how long it gets.
 use crate::parts::put_byte;
-use crate::parts::put_letter;
-use crate::parts::put_level;
 use crate::parts::put_name;
+use crate::parts::put_number;
 use receiver::FrameResult;
 use receiver::Kind;
 use sets::Indices;
@@ -10,16 +9,13 @@ use sets::ParameterSet;
 use text::Name;
 ghost use mathlib.Core.Path.{_≡_};
 ghost use Prim.Native.Nat.{_≤_};
-ghost use mathlib.Core.List.{[], _∷_};
-ghost use lib.ListN.{length};
+ghost use mathlib.Core.List.{[], _∷_, _++_};
+ghost use lib.ListN.{length, set};
+ghost use Rattle.text.specs.Text.{ascii, decimal, field};
 ghost use Rattle.text.specs.Placing.{PutIfRoom};
-ghost use Rattle.report.specs.Lines.{letter, flag, pitchText, lsfText, voicingText, setText, resultText};
+ghost use Rattle.report.specs.Lines.{letter, flag, pitchText, lsfText, setText, resultText};
 
-const KIND: Name = *b" kind=..........";
-
-const PITCH: Name = *b" pitch=.........";
-
-const NO_PITCH: Name = *b" pitch=-........";
+const PITCH: Name = *b" kind=. pitch=-.";
 
 const LSF: Name = *b" lsf=...........";
 
@@ -37,11 +33,9 @@ const FIRST: Name = *b" g1=............";
 
 const SECOND: Name = *b" g2=............";
 
-const SYNC: Name = *b" sync=..........";
+const FIXED: Name = *b" sync=. fixed=..";
 
-const FIXED: Name = *b" fixed=.........";
-
-const MUTE: Name = *b" mute=..........";
+const MUTE: Name = *b" mute=.\n........";
 
 // The letter of a kind.
 fn letter_of(kind: Kind) -> u8
@@ -64,65 +58,74 @@ fn flag_of(set: bool) -> u8
     b'0'
 }
 
+// A name with a letter at its seventh byte, after a name of its own.
+fn with_letter(name: Name, letter: u8) -> Name
+    ensures { λ r. ⌜ r ≡ set name 6 letter ⌝ }
+{
+    let mut whole = name;
+    whole[6] = letter;
+    whole
+}
+
 // The four LSF indices.
 fn write_lsf(x: Indices, line: &mut [u8], at: usize) -> usize
     ensures put { λ r. ⌜ PutIfRoom (now (line .entry)) at (lsfText x) (now (line .exit)) r ⌝ }
     ensures bound { λ _. ⌜ length (lsfText x) ≤ 20 ⌝ }
 {
-    let first = put_byte(LSF, 5, x.l1, line, at);
-    let second = put_byte(COMMA, 1, x.l2, line, first);
-    let third = put_byte(COMMA, 1, x.l3, line, second);
-    put_byte(COMMA, 1, x.l4, line, third)
+    let comma = COMMA;
+    let mut end = put_byte(LSF, 5, x.l1, line, at);
+    end = put_byte(comma, 1, x.l2, line, end);
+    end = put_byte(comma, 1, x.l3, line, end);
+    put_byte(comma, 1, x.l4, line, end)
 }
 
-// The pitch: a dash where there is none.
-fn write_pitch(set: ParameterSet, line: &mut [u8], at: usize) -> usize
-    ensures put { λ r. ⌜ PutIfRoom (now (line .entry)) at (pitchText set) (now (line .exit)) r ⌝ }
-    ensures bound { λ _. ⌜ length (pitchText set) ≤ 10 ⌝ }
+// The kind's letter, and the pitch: a dash where there is none.
+fn write_pitch(letter: u8, set: ParameterSet, line: &mut [u8], at: usize) -> usize
+    ensures put { λ r. ⌜ PutIfRoom (now (line .entry)) at (field " kind=" (letter ∷ []) ++ pitchText set) (now (line .exit)) r ⌝ }
+    ensures bound { λ _. ⌜ length (field " kind=" (letter ∷ []) ++ pitchText set) ≤ 17 ⌝ }
 {
+    let name = with_letter(PITCH, letter);
     match set {
-        ParameterSet::Unvoiced(_) => put_name(NO_PITCH, 8, line, at),
-        ParameterSet::Voiced(_, v) => put_byte(PITCH, 7, v.pitch, line, at),
+        ParameterSet::Unvoiced(_) => put_name(name, 15, line, at),
+        ParameterSet::Voiced(_, v) => put_byte(name, 14, v.pitch, line, at),
     }
 }
 
-// The bandpass, Fourier and aperiodic codes: dashes where there are none.
-fn write_voicing(set: ParameterSet, line: &mut [u8], at: usize) -> usize
-    ensures put { λ r. ⌜ PutIfRoom (now (line .entry)) at (voicingText set) (now (line .exit)) r ⌝ }
-    ensures bound { λ _. ⌜ length (voicingText set) ≤ 21 ⌝ }
+// The kind's letter and the set: dashes for the bandpass, Fourier and aperiodic codes where there are none.
+fn write_set(letter: u8, set: ParameterSet, line: &mut [u8], at: usize) -> usize
+    ensures put { λ r. ⌜ PutIfRoom (now (line .entry)) at (field " kind=" (letter ∷ []) ++ setText set) (now (line .exit)) r ⌝ }
+    ensures bound { λ _. ⌜ length (field " kind=" (letter ∷ []) ++ setText set) ≤ 58 ⌝ }
 {
+    let mut end = write_pitch(letter, set, line, at);
+    end = write_lsf(sets::indices_of(set), line, end);
     match set {
-        ParameterSet::Unvoiced(_) => put_name(UNVOICED, 15, line, at),
+        ParameterSet::Unvoiced(_) => put_name(UNVOICED, 15, line, end),
         ParameterSet::Voiced(_, v) => {
-            let bandpass = put_byte(BANDPASS, 4, v.bandpass, line, at);
-            let fourier = put_byte(FOURIER, 4, v.fourier, line, bandpass);
-            put_byte(APERIODIC, 4, v.aperiodic, line, fourier)
+            end = put_byte(BANDPASS, 4, v.bandpass, line, end);
+            end = put_byte(FOURIER, 4, v.fourier, line, end);
+            put_byte(APERIODIC, 4, v.aperiodic, line, end)
         }
     }
 }
 
-// The set.
-fn write_set(set: ParameterSet, line: &mut [u8], at: usize) -> usize
-    ensures put { λ r. ⌜ PutIfRoom (now (line .entry)) at (setText set) (now (line .exit)) r ⌝ }
-    ensures bound { λ _. ⌜ length (setText set) ≤ 51 ⌝ }
+// The sync bit, the repaired count and mute, and the line end.
+fn write_state(sync: bool, repaired: u8, mute: bool, line: &mut [u8], at: usize) -> usize
+    ensures put { λ r. ⌜ PutIfRoom (now (line .entry)) at (field " sync=" (flag sync) ++ (field " fixed=" (decimal repaired) ++ (field " mute=" (flag mute) ++ ascii "\n"))) (now (line .exit)) r ⌝ }
+    ensures bound { λ _. ⌜ length (field " sync=" (flag sync) ++ (field " fixed=" (decimal repaired) ++ (field " mute=" (flag mute) ++ ascii "\n"))) ≤ 25 ⌝ }
 {
-    let pitch = write_pitch(set, line, at);
-    let lsf = write_lsf(sets::indices_of(set), line, pitch);
-    write_voicing(set, line, lsf)
+    let end = put_byte(with_letter(FIXED, flag_of(sync)), 14, repaired, line, at);
+    put_name(with_letter(MUTE, flag_of(mute)), 8, line, end)
 }
 
-// A result: kind, set and levels, then sync bit, repaired count and mute.
+// A result, to the line end: kind, set and levels, and what follows them.
 pub(crate) fn write_result(result: FrameResult, line: &mut [u8], at: usize) -> usize
-    ensures put { λ r. ⌜ PutIfRoom (now (line .entry)) at (resultText result) (now (line .exit)) r ⌝ }
-    ensures bound { λ _. ⌜ length (resultText result) ≤ 110 ⌝ }
+    ensures put { λ r. ⌜ PutIfRoom (now (line .entry)) at (resultText result ++ ascii "\n") (now (line .exit)) r ⌝ }
+    ensures bound { λ _. ⌜ length (resultText result ++ ascii "\n") ≤ 111 ⌝ }
 {
     let kind = result.kind;
     let set = result.set;
-    let kind_end = put_letter(KIND, 6, letter_of(kind), line, at);
-    let set_end = write_set(set, line, kind_end);
-    let first = put_level(FIRST, 4, result.first, line, set_end);
-    let second = put_level(SECOND, 4, result.second, line, first);
-    let sync = put_letter(SYNC, 6, flag_of(result.sync), line, second);
-    let repaired = put_byte(FIXED, 7, result.repaired, line, sync);
-    put_letter(MUTE, 6, flag_of(result.mute), line, repaired)
+    let mut end = write_set(letter_of(kind), set, line, at);
+    end = put_number(FIRST, 4, result.first as u64, line, end);
+    end = put_number(SECOND, 4, result.second as u64, line, end);
+    write_state(result.sync, result.repaired, result.mute, line, end)
 }

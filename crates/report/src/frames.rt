@@ -1,7 +1,7 @@
 // The line of a frame.
 use crate::fields::write_result;
 use crate::parts::put_byte;
-use crate::parts::put_end;
+use crate::parts::put_name;
 use crate::parts::put_number;
 use receiver::ReceiveAnswer;
 use text::LineAnswer;
@@ -10,22 +10,13 @@ ghost use mathlib.Core.Path.{_≡_};
 ghost use Prim.Native.Nat.{_≤_};
 ghost use lib.ListN.{length};
 ghost use Rattle.text.specs.Placing.{placeAnswer, placeWrites, PutIfRoom};
-ghost use Rattle.report.specs.Lines.{answerText, frameLine};
+ghost use Rattle.report.specs.Lines.{frameLine};
 
 const FRAME: Name = *b"frame=..........";
 
 const REFUSED: Name = *b" refused=.......";
 
-// What a frame was answered.
-fn write_answer(answer: ReceiveAnswer, line: &mut [u8], at: usize) -> usize
-    ensures put { λ r. ⌜ PutIfRoom (now (line .entry)) at (answerText answer) (now (line .exit)) r ⌝ }
-    ensures bound { λ _. ⌜ length (answerText answer) ≤ 110 ⌝ }
-{
-    match answer {
-        ReceiveAnswer::Result(result) => write_result(result, line, at),
-        ReceiveAnswer::Refused(n) => put_byte(REFUSED, 9, n, line, at),
-    }
-}
+const END: Name = *b"\n...............";
 
 // The whole line.
 fn write_frame(k: u64, answer: ReceiveAnswer, line: &mut [u8], at: usize) -> usize
@@ -33,8 +24,13 @@ fn write_frame(k: u64, answer: ReceiveAnswer, line: &mut [u8], at: usize) -> usi
     ensures bound { λ _. ⌜ length (frameLine k answer) ≤ 144 ⌝ }
 {
     let number = put_number(FRAME, 6, k, line, at);
-    let whole = write_answer(answer, line, number);
-    put_end(line, whole)
+    match answer {
+        ReceiveAnswer::Result(result) => write_result(result, line, number),
+        ReceiveAnswer::Refused(n) => {
+            let end = put_byte(REFUSED, 9, n, line, number);
+            put_name(END, 1, line, end)
+        }
+    }
 }
 
 // The line of frame k, to `at` and on; it has at most 144 bytes. Refused: 1, the buffer ends before the line.

@@ -2,9 +2,9 @@
 use text::Name;
 use text::end_of;
 ghost use Prim.Native.Nat.{_+_, _≤_};
-ghost use mathlib.Core.List.{[], _∷_, _++_};
+ghost use mathlib.Core.List.{_++_};
 ghost use lib.ListN.{length, take};
-ghost use Rattle.text.specs.Text.{ascii, decimal};
+ghost use Rattle.text.specs.Text.{decimal};
 ghost use Rattle.text.specs.Placing.{PutIfRoom};
 
 // The first `width` bytes of a name.
@@ -15,15 +15,7 @@ pub(crate) fn put_name(name: Name, width: usize, line: &mut [u8], at: usize) -> 
     end_of(text::name(name, width, line, at), at)
 }
 
-// A name, and a byte after it.
-pub(crate) fn put_letter(name: Name, width: usize, letter: u8, line: &mut [u8], at: usize) -> usize
-    ensures put { λ r. ⌜ PutIfRoom (now (line .entry)) at (take width name ++ (letter ∷ [])) (now (line .exit)) r ⌝ }
-    ensures bound { λ _. ⌜ length (take width name ++ (letter ∷ [])) ≤ width + 1 ⌝ }
-{
-    end_of(text::letter(name, width, letter, line, at), at)
-}
-
-// A name, and a number after it: of 64 bits, of 32, and of 8.
+// A name, and a number after it: of 64 bits, and of 8.
 pub(crate) fn put_number(name: Name, width: usize, n: u64, line: &mut [u8], at: usize) -> usize
     ensures put { λ r. ⌜ PutIfRoom (now (line .entry)) at (take width name ++ decimal n) (now (line .exit)) r ⌝ }
     ensures bound { λ _. ⌜ length (take width name ++ decimal n) ≤ width + 20 ⌝ }
@@ -31,23 +23,9 @@ pub(crate) fn put_number(name: Name, width: usize, n: u64, line: &mut [u8], at: 
     end_of(text::number(name, width, n, line, at), at)
 }
 
-pub(crate) fn put_level(name: Name, width: usize, n: u32, line: &mut [u8], at: usize) -> usize
-    ensures put { λ r. ⌜ PutIfRoom (now (line .entry)) at (take width name ++ decimal n) (now (line .exit)) r ⌝ }
-    ensures bound { λ _. ⌜ length (take width name ++ decimal n) ≤ width + 10 ⌝ }
-{
-    put_number(name, width, n as u64, line, at)
-}
-
 pub(crate) fn put_byte(name: Name, width: usize, n: u8, line: &mut [u8], at: usize) -> usize
     ensures put { λ r. ⌜ PutIfRoom (now (line .entry)) at (take width name ++ decimal n) (now (line .exit)) r ⌝ }
     ensures bound { λ _. ⌜ length (take width name ++ decimal n) ≤ width + 3 ⌝ }
 {
     put_number(name, width, n as u64, line, at)
-}
-
-// The line end.
-pub(crate) fn put_end(line: &mut [u8], at: usize) -> usize
-    ensures { λ r. ⌜ PutIfRoom (now (line .entry)) at (ascii "\n") (now (line .exit)) r ⌝ }
-{
-    end_of(text::place(b"\n", line, at), at)
 }

@@ -1,5 +1,4 @@
 // The first and the last line of a call.
-use crate::parts::put_end;
 use crate::parts::put_number;
 use text::LineAnswer;
 use text::Name;
@@ -29,10 +28,9 @@ pub fn last_line(frames: u64, repeats: u64, left: u64, out: &mut [u8], at: usize
     ensures written { λ _. ⌜ now (out .exit) ≡ placeWrites (lastLine frames repeats left) at (now (out .entry)) ⌝ }
     ensures bound { λ _. ⌜ length (lastLine frames repeats left) ≤ 144 ⌝ }
 {
-    let mut line = [0u8; 144];
-    let first = put_number(FRAMES, 7, frames, &mut line, 0);
-    let second = put_number(REPEATS, 9, repeats, &mut line, first);
-    let third = put_number(LEFT, 6, left, &mut line, second);
-    let end = put_end(&mut line, third);
-    text::place(&line[..end], out, at)
+    let mut line = [b'\n'; 144];
+    let mut end = put_number(FRAMES, 7, frames, &mut line, 0);
+    end = put_number(REPEATS, 9, repeats, &mut line, end);
+    end = put_number(LEFT, 6, left, &mut line, end);
+    text::place(&line[..end + 1], out, at)
 }

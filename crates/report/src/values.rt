@@ -1,6 +1,5 @@
 // The line of a value, and of a refusal.
 use crate::parts::put_byte;
-use crate::parts::put_end;
 use text::LineAnswer;
 use text::Name;
 use text::end_of;
@@ -18,10 +17,9 @@ pub fn value_line(x: i64, out: &mut [u8], at: usize) -> LineAnswer
     ensures written { λ _. ⌜ now (out .exit) ≡ placeWrites (valueLine x) at (now (out .entry)) ⌝ }
     ensures bound { λ _. ⌜ length (valueLine x) ≤ 22 ⌝ }
 {
-    let mut line = [0u8; 22];
-    let digits = end_of(text::signed(x, &mut line, 0), 0);
-    let end = put_end(&mut line, digits);
-    text::place(&line[..end], out, at)
+    let mut line = [b'\n'; 22];
+    let end = end_of(text::signed(x, &mut line, 0), 0);
+    text::place(&line[..end + 1], out, at)
 }
 
 // The line of a refusal, to `at` and on; it has at most 22 bytes. Refused: 1, the buffer ends before the line.
@@ -30,8 +28,7 @@ pub fn refusal_line(n: u8, out: &mut [u8], at: usize) -> LineAnswer
     ensures written { λ _. ⌜ now (out .exit) ≡ placeWrites (refusalLine n) at (now (out .entry)) ⌝ }
     ensures bound { λ _. ⌜ length (refusalLine n) ≤ 22 ⌝ }
 {
-    let mut line = [0u8; 22];
-    let digits = put_byte(REFUSED, 8, n, &mut line, 0);
-    let end = put_end(&mut line, digits);
-    text::place(&line[..end], out, at)
+    let mut line = [b'\n'; 22];
+    let end = put_byte(REFUSED, 8, n, &mut line, 0);
+    text::place(&line[..end + 1], out, at)
 }

@@ -60,7 +60,3 @@ decimal-length (suc k) n h =
     go : (t : Bool) → ltb n 10 ≡ t → length (decimal (n / 10)) ≤ suc k → length (decimal n) ≤ suc (suc k)
     go true e i = rw (decimal-one n (ltb-true n 10 e)) (omega arith)
     go false e i = rw (decimal-more n (ltb-false n 10 e), length-append (decimal (n / 10)) (digitByte (n % 10) ∷ [])) (omega arith)
-
--- a digit more than without the last
-pub decimal-length-suc : (n : ℕ) → 10 ≤ n → length (decimal n) ≡ length (decimal (n / 10)) + 1
-decimal-length-suc n h = rw (decimal-more n h) (length-append (decimal (n / 10)) (digitByte (n % 10) ∷ []))

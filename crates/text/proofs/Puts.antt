@@ -1,9 +1,10 @@
 -- Texts put into a buffer one after the other, and the room that they need. Assumes nothing.
 use mathlib.Core.Path.{_≡_, sym, ap, _∙_}
 use mathlib.Core.List.{List, [], _∷_, _++_, append-nil, append-assoc}
-use Prim.Native.Nat.{ℕ, _+_, _≤_, _<_}
+use Prim.Native.Nat.{ℕ, suc, _+_, _≤_, _<_}
 use native.Mathlib.Omega.{arith}
-use lib.ListN.{length, take, set, length-append, length-set}
+use lib.ListN.{length, take, drop, set, replicate, length-append, length-set, length-replicate, getD-replicate}
+use lib.Seq.{drop-cons, take-append-add}
 use Rattle.text.specs.Placing.{written, Appended, Put, PutIfRoom}
 use Rattle.text.proofs.Writes.{written-length, written-appended, written-one, written-append}
 
@@ -38,9 +39,21 @@ pair-put out at a b h =
 pub put-appended : (a b : List ℕ) (at m : ℕ) (xs : List ℕ) → at ≤ length a → Put a at xs b m → Appended a at xs b m
 put-appended a b at m xs h p = rw (p .0, p .1) (written-appended xs at a h)
 
--- what is put to the front of a buffer stands there
-pub put-front : (a b : List ℕ) (m : ℕ) (xs : List ℕ) → length xs ≤ length a → PutIfRoom a 0 xs b m → Appended a 0 xs b m
-put-front a b m xs h p = put-appended a b 0 m xs (omega arith) (p (omega arith))
+-- what is put to the front of a buffer is what stands before its end
+pub front-is : (a b : List ℕ) (m : ℕ) (xs : List ℕ) → Put a 0 xs b m → take m b ≡ xs
+front-is a b m xs p = put-appended a b 0 m xs (omega arith) p .1
+
+-- in a buffer of one byte only, that byte stands after it
+pub front-then : (size byte : ℕ) (b : List ℕ) (m : ℕ) (xs : List ℕ) → length xs < size → Put (replicate size byte) 0 xs b m → take (m + 1) b ≡ xs ++ (byte ∷ [])
+front-then size byte b m xs h p =
+    let a = replicate size byte in
+    let n : m + 1 ≡ length xs + 1 = omega (arith, p .0) in
+    let z : 0 + length xs ≡ length xs = omega arith in
+    let rest : drop (0 + length xs) a ≡ byte ∷ drop (suc (length xs)) a =
+    ap (λ (k : ℕ). drop k a) z
+    ∙ drop-cons a (length xs) 0 (rw (length-replicate size byte) h)
+    ∙ ap (λ (k : ℕ). k ∷ drop (suc (length xs)) a) (getD-replicate size (length xs) byte 0 h) in
+    (λ i. take (n i) (p .1 i)) ∙ ap (λ (l : List ℕ). take (length xs + 1) (xs ++ l)) rest ∙ take-append-add xs (byte ∷ drop (suc (length xs)) a) 1
 
 -- nothing appended
 pub appended-none : (out : List ℕ) (at : ℕ) → Appended out at [] out at

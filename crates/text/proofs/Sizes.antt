@@ -2,27 +2,23 @@
 -- -1 - x is not negative and fits, even for the least number. Assumes nothing.
 use mathlib.Core.Path.{_≡_, refl, ap}
 use mathlib.Core.Bool.{Bool, true, false, cond, true≢false}
-use mathlib.Core.List.{[]}
+use mathlib.Core.List.{List, [], _++_}
 use Prim.Native.Nat.{ℕ, suc, _+_, _-_, _≤_, _<_, _^_}
 use native.Mathlib.Omega.{arith}
 use lib.Dec.{ltb, T}
-use lib.ListN.{length, length-append}
+use lib.ListN.{length, take, length-append}
 use lib.IntN.{ℤ, pos, negsuc, natAbs, _-ℤ_}
 use lib.Signed.{ltZ, nonNeg}
 use mir.Syntax.{w64}
-use mir.Val.{SFits}
-use borrow.Author.Tests.{ltb-true}
+use mir.Val.{SFits, boolByte}
+use borrow.Author.Tests.{le-ltb, ltb-true}
 use Rattle.text.specs.Text.{ascii, decimal, sign, signed}
 use Rattle.text.proofs.Decimals.{decimal-length}
 
--- of a negative number, and of any other
-pub sign-negative : (x : ℤ) → ltZ x (pos 0) ≡ true → sign x ≡ ascii "-"
-sign-negative (pos n) e = absurd (omega (arith, ltb-true n 0 e))
-sign-negative (negsuc n) e = refl
-
-pub sign-other : (x : ℤ) → ltZ x (pos 0) ≡ false → sign x ≡ []
-sign-other (pos n) e = refl
-sign-other (negsuc n) e = absurd (true≢false e)
+-- by the test: what starts with a minus, up to it or up to nothing
+pub sign-is : (x : ℤ) (rest : List ℕ) → take (boolByte (ltZ x (pos 0))) (ascii "-" ++ rest) ≡ sign x
+sign-is (pos n) rest = ap (λ (t : Bool). take (boolByte t) (ascii "-" ++ rest)) (le-ltb n 0 (omega arith))
+sign-is (negsuc n) rest = refl
 
 -- -1 less the number n + 1 below 0 is n
 less-is : (n : ℕ) → negsuc 0 -ℤ negsuc n ≡ pos n

@@ -27,7 +27,7 @@ module _ (name : List ℕ) (size : length name ≡ 16) where
       go false e = take-all 16 name (omega arith) ∙ sym (take-all width name (omega (arith, ltb-false width 16 e)))
 
   -- a text after the name
-  pub field-length : (width : ℕ) (text : List ℕ) → width ≤ 16 → length (take width name ++ text) ≡ width + length text
+  field-length : (width : ℕ) (text : List ℕ) → width ≤ 16 → length (take width name ++ text) ≡ width + length text
   field-length width text h = length-append (take width name) text ∙ ap (λ (k : ℕ). k + length text) (length-take-le width name (omega arith))
 
   -- the same by the width that the name has

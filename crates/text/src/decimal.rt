@@ -7,25 +7,26 @@ ghost use Rattle.bits.specs.Ascii.{digitByte};
 ghost use Rattle.text.specs.Text.{decimal};
 ghost use Rattle.text.specs.Placing.{written};
 
-// The two digits of a number below a hundred, with a zero in front of a single one.
-fn write_pair(n: u8, out: &mut [u8], at: usize) -> usize
-    requires { ⌜ (n < 100) × (at + 2 ≤ length (now out)) ⌝ }
+// The last two digits of a number, with a zero in front of a single one.
+fn write_pair(n: u64, out: &mut [u8], at: usize) -> usize
+    requires { ⌜ at + 2 ≤ length (now out) ⌝ }
     ensures end { λ r. ⌜ r ≡ at + 2 ⌝ }
-    ensures text { λ _. ⌜ now (out .exit) ≡ written (digitByte (n / 10) ∷ digitByte (n % 10) ∷ []) at (now (out .entry)) ⌝ }
+    ensures text { λ _. ⌜ now (out .exit) ≡ written (digitByte (n % 100 / 10) ∷ digitByte (n % 100 % 10) ∷ []) at (now (out .entry)) ⌝ }
 {
-    out[at] = 48 + n / 10;
-    out[at + 1] = 48 + n % 10;
+    let pair = (n % 100) as u8;
+    out[at] = 48 + pair / 10;
+    out[at + 1] = 48 + pair % 10;
     at + 2
 }
 
 // A number below a hundred.
-fn write_small(n: u8, out: &mut [u8], at: usize) -> usize
+fn write_small(n: u64, out: &mut [u8], at: usize) -> usize
     requires { ⌜ (n < 100) × (at + length (decimal n) ≤ length (now out)) ⌝ }
     ensures end { λ r. ⌜ r ≡ at + length (decimal n) ⌝ }
     ensures text { λ _. ⌜ now (out .exit) ≡ written (decimal n) at (now (out .entry)) ⌝ }
 {
     if n < 10 {
-        out[at] = 48 + n;
+        out[at] = 48 + n as u8;
         return at + 1;
     }
     write_pair(n, out, at)
@@ -37,8 +38,8 @@ fn write_hundreds(n: u64, out: &mut [u8], at: usize) -> usize
     ensures end { λ r. ⌜ r ≡ at + length (decimal n) ⌝ }
     ensures text { λ _. ⌜ now (out .exit) ≡ written (decimal n) at (now (out .entry)) ⌝ }
 {
-    let end = write_small((n / 100) as u8, out, at);
-    write_pair((n % 100) as u8, out, end)
+    let end = write_small(n / 100, out, at);
+    write_pair(n, out, end)
 }
 
 // A number of three digits or more.
@@ -51,7 +52,7 @@ fn write_long(n: u64, out: &mut [u8], at: usize) -> usize
         return write_hundreds(n, out, at);
     }
     let end = write_long(n / 100, out, at);
-    write_pair((n % 100) as u8, out, end)
+    write_pair(n, out, end)
 }
 
 // A number. Those of up to six digits are the common ones, and take no recursion.
@@ -61,24 +62,14 @@ pub(crate) fn write_decimal(n: u64, out: &mut [u8], at: usize) -> usize
     ensures text { λ _. ⌜ now (out .exit) ≡ written (decimal n) at (now (out .entry)) ⌝ }
 {
     if n < 100 {
-        return write_small(n as u8, out, at);
+        return write_small(n, out, at);
     }
     if n < 10000 {
         return write_hundreds(n, out, at);
     }
     if n < 1000000 {
         let end = write_hundreds(n / 100, out, at);
-        return write_pair((n % 100) as u8, out, end);
+        return write_pair(n, out, end);
     }
     write_long(n, out, at)
-}
-
-// How many digits a number has.
-pub(crate) fn length_of(n: u64) -> usize
-    ensures { λ r. ⌜ r ≡ length (decimal n) ⌝ }
-{
-    if n < 10 {
-        return 1;
-    }
-    length_of(n / 10) + 1
 }

@@ -3,13 +3,11 @@
 //
 //   fields   a name, and a letter or a number after it
 //   signs    a signed number
-//   names    the same, where there is room
 //   decimal  numbers, where there is room
 //   bytes    bytes put one after another
 mod bytes;
 mod decimal;
 mod fields;
-mod names;
 mod signs;
 
 pub use bytes::end_of;

@@ -25,8 +25,5 @@ pub fn signed(x: i64, out: &mut [u8], at: usize) -> LineAnswer
     ensures answer { λ r. ⌜ r ≡ placeAnswer (signed x) at (length (now (out .entry))) ⌝ }
     ensures written { λ _. ⌜ now (out .exit) ≡ placeWrites (signed x) at (now (out .entry)) ⌝ }
 {
-    if x < 0 {
-        return number(MINUS, 1, absolute(x), out, at);
-    }
-    number(MINUS, 0, absolute(x), out, at)
+    number(MINUS, (x < 0) as usize, absolute(x), out, at)
 }

@@ -1,102 +1,87 @@
--- `report::fields::write_result` meets its contract: seven parts, one after the other. Assumes nothing.
+-- `report::fields::write_result` meets its contract: the set, the levels and what follows them, one after the other. Assumes nothing.
 use mathlib.Core.Path.{_∙_}
-use mathlib.Core.List.{_++_}
+use mathlib.Core.List.{[], _∷_, _++_}
+use Prim.Native.Nat.{_^_, _<_}
+use native.Mathlib.Omega.{arith}
 use Rattle.text.specs.Text.{ascii, decimal, field}
-use Rattle.report.specs.Lines.{letter, flag, setText, resultText}
-use Rattle.report.proofs.Lines.{part-append, part-is}
+use Rattle.report.specs.Lines.{setText, flag, resultText}
+use Rattle.report.proofs.Lines.{part-append, part-group, level-part}
 use Rattle.report.proofs.fields.write_result.Statement.{statement}
 use Rattle.report.proofs.fields.write_result.Tie as tie
 
 letter-of-requires : tie.Need-letter-of-requires
 letter-of-requires c κs = tt
 
-put-letter-requires : tie.Need-put-letter-requires
-put-letter-requires c κs = tt
-
 write-set-requires : tie.Need-write-set-requires
 write-set-requires c κs = tt
 
-put-level-requires : tie.Need-put-level-requires
-put-level-requires c κs = tt
+cast-put-number : tie.Need-cast-put-number
+cast-put-number c = record { fits = omega arith }
 
-put-level-requires-2 : tie.Need-put-level-requires-2
-put-level-requires-2 c κs = tt
+put-number-requires : tie.Need-put-number-requires
+put-number-requires c κs = tt
 
-flag-of-requires : tie.Need-flag-of-requires
-flag-of-requires c κs = tt
+cast-put-number-2 : tie.Need-cast-put-number-2
+cast-put-number-2 c = record { fits = omega arith }
 
-put-letter-requires-2 : tie.Need-put-letter-requires-2
-put-letter-requires-2 c κs = tt
+put-number-requires-2 : tie.Need-put-number-requires-2
+put-number-requires-2 c κs = tt
 
-put-byte-requires : tie.Need-put-byte-requires
-put-byte-requires c κs = tt
-
-flag-of-requires-2 : tie.Need-flag-of-requires-2
-flag-of-requires-2 c κs = tt
-
-put-letter-requires-3 : tie.Need-put-letter-requires-3
-put-letter-requires-3 c κs = tt
+write-state-requires : tie.Need-write-state-requires
+write-state-requires c κs = tt
 
 same-length : tie.Need-same-length
 same-length c =
-    let d7 = c .before .before in
-    let f2 = d7 .before .before in
-    let d6 = f2 .before .before .before in
-    let d5 = d6 .before .before .before .before in
-    let f1 = d5 .before .before in
-    let d4 = f1 .before .before .before in
+    let d4 = c .before .before in
     let d3 = d4 .before .before .before .before in
-    let d2 = d3 .before .before .before .before in
-    let d1 = d2 .before .before .before .before in
-    let levels = d4 .put-level2 .kept .1 .1 .1 .0 ∙ d3 .put-level .kept .1 .1 .1 .0 ∙ d2 .write-set .kept .1 .0 ∙ d1 .put-letter .kept .1 .1 .1 .0 in
-    d7 .put-letter3 .kept .1 .1 .1 .0 ∙ d6 .put-byte .kept .1 .1 .1 .0 ∙ d5 .put-letter2 .kept .1 .1 .1 .0 ∙ levels
+    let d2 = d3 .before .before .before .before .before in
+    let d1 = d2 .before .before .before .before .before in
+    d4 .write-state .kept .1 .1 .1 .0 ∙ d3 .put-number2 .kept .1 .1 .1 .0 ∙ d2 .put-number .kept .1 .1 .1 .0 ∙ d1 .write-set .kept .1 .1 .0
+
+-- a level has 32 bits
+first-lt : (c : tie.After-struct-known) → c .before .before .before .before .before .before .before .args .result .first < 2 ^ 32
+first-lt c = omega arith
+
+second-lt : (c : tie.After-struct-known2) → c .before .before .before .before .before .before .before .before .before .before .before .before .args .result .second < 2 ^ 32
+second-lt c = omega arith
 
 returns : tie.Need-returns
 unfolding resultText
 returns c =
-    let d7 = c .before .before in
-    let f2 = d7 .before .before in
-    let d6 = f2 .before .before .before in
-    let d5 = d6 .before .before .before .before in
-    let f1 = d5 .before .before in
-    let d4 = f1 .before .before .before in
+    let d4 = c .before .before in
     let d3 = d4 .before .before .before .before in
-    let d2 = d3 .before .before .before .before in
-    let d1 = d2 .before .before .before .before in
+    let d2 = d3 .before .before .before .before .before in
+    let d1 = d2 .before .before .before .before .before in
     let k = d1 .before .before in
     let a = k .before .before .args in
     let l = a .line .now in
     let r = a .result in
-    let p1 = field " kind=" (letter (r .kind)) in
-    let p2 = setText (r .set) in
-    let p3 = field " g1=" (decimal (r .first)) in
-    let p4 = field " g2=" (decimal (r .second)) in
-    let s1 = field " sync=" (flag (r .sync)) in
-    let s2 = field " fixed=" (decimal (r .repaired)) in
-    let s3 = field " mute=" (flag (r .mute)) in
-    let e1 = part-is l _ (a .at) _ 7 (ascii " kind=") _ (letter (r .kind)) (k .letter-of .ensures) (d1 .put-letter .ensures) in
-    let e5 = part-is _ _ _ _ 7 (ascii " sync=") _ (flag (r .sync)) (f1 .flag-of .ensures) (d5 .put-letter2 .ensures) in
-    let e7 = part-is _ _ _ _ 7 (ascii " mute=") _ (flag (r .mute)) (f2 .flag-of2 .ensures) (d7 .put-letter3 .ensures) in
-    let w2 = part-append l _ _ (a .at) _ _ _ _ p1 p2 e1 (d2 .write-set .ensures) in
-    let w3 = part-append l _ _ (a .at) _ _ _ _ (p1 ++ p2) p3 w2 (d3 .put-level .ensures) in
-    let w4 = part-append l _ _ (a .at) _ _ _ _ (p1 ++ p2 ++ p3) p4 w3 (d4 .put-level2 .ensures) in
-    let w5 = part-append l _ _ (a .at) _ _ _ _ (p1 ++ p2 ++ p3 ++ p4) s1 w4 e5 in
-    let w6 = part-append l _ _ (a .at) _ _ _ _ (p1 ++ p2 ++ p3 ++ p4 ++ s1) s2 w5 (d6 .put-byte .ensures) in
-    part-append l _ _ (a .at) _ _ _ _ (p1 ++ p2 ++ p3 ++ p4 ++ s1 ++ s2) s3 w6 e7
+    let p1 = field " kind=" (k .letter-of .result ∷ []) ++ setText (r .set) in
+    let p2 = field " g1=" (decimal (r .first)) in
+    let p3 = field " g2=" (decimal (r .second)) in
+    let sync = field " sync=" (flag (r .sync)) in
+    let fixed = field " fixed=" (decimal (r .repaired)) in
+    let mute = field " mute=" (flag (r .mute)) in
+    let g1 = level-part _ _ _ _ (ascii " g1=") (r .first) (first-lt (d2 .before .before)) (d2 .put-number .ensures .0) in
+    let g2 = level-part _ _ _ _ (ascii " g2=") (r .second) (second-lt (d3 .before .before)) (d3 .put-number2 .ensures .0) in
+    let w2 = part-append l _ _ (a .at) _ _ _ _ p1 p2 (d1 .write-set .ensures) g1 in
+    let w3 = part-append l _ _ (a .at) _ _ _ _ (p1 ++ p2) p3 w2 g2 in
+    let p = p1 ++ p2 ++ p3 in
+    let w4 = part-append l _ _ (a .at) _ _ 86 25 p (sync ++ (fixed ++ (mute ++ ascii "\n"))) w3 (d4 .write-state .ensures) in
+    let s = part-group l _ (a .at) _ 111 p sync (fixed ++ (mute ++ ascii "\n")) w4 in
+    let f = part-group l _ (a .at) _ 111 (p ++ sync) fixed (mute ++ ascii "\n") s in
+    rw (← k .letter-of .ensures) (part-group l _ (a .at) _ 111 (p ++ sync ++ fixed) mute (ascii "\n") f)
 
 pub write-result-spec : {M : Type 1} → statement M
 write-result-spec =
     tie.close
     (tie.spec
     letter-of-requires
-    put-letter-requires
     write-set-requires
-    put-level-requires
-    put-level-requires-2
-    flag-of-requires
-    put-letter-requires-2
-    put-byte-requires
-    flag-of-requires-2
-    put-letter-requires-3
+    cast-put-number
+    put-number-requires
+    cast-put-number-2
+    put-number-requires-2
+    write-state-requires
     same-length
     returns)

@@ -2,7 +2,6 @@
 use mathlib.Core.Path.{sym}
 use Prim.Native.Nat.{_+_, _≤_}
 use native.Mathlib.Omega.{arith}
-use borrow.Author.Needs.{needs}
 use lib.ListN.{length, replicate}
 use lib.Seq.{length-take-le}
 use Rattle.text.proofs.Answers.{room-owes}
@@ -32,7 +31,7 @@ returns c =
     (o .0, (o .1, e .1))
 
 slice-aggregate-write-frame : tie.Need-slice-aggregate-write-frame
-slice-aggregate-write-frame c = search needs
+slice-aggregate-write-frame c = omega arith
 
 write-frame-requires-2 : tie.Need-write-frame-requires-2
 write-frame-requires-2 c κs = tt

@@ -1,48 +1,36 @@
--- `report::values::refusal_line` meets its contract: a name, a number and the line end make the line, which is then put into the buffer whole. Assumes nothing.
+-- `report::values::refusal_line` meets its contract: a name, a number and the line end after them, which are then put into the buffer whole. Assumes nothing.
 use mathlib.Core.Path.{sym}
-use mathlib.Core.List.{List, _++_}
+use mathlib.Core.List.{List}
 use Prim.Native.Nat.{ℕ}
 use native.Mathlib.Omega.{arith}
-use borrow.Author.Needs.{needs}
 use lib.ListN.{replicate}
 use lib.Seq.{length-take-le}
-use Rattle.text.specs.Text.{ascii, decimal, field}
+use Rattle.text.specs.Text.{decimal, field}
 use Rattle.report.specs.Lines.{refusalLine}
-use Rattle.report.proofs.Lines.{Part, part-append, part-within, line-end-le, line-owes}
+use Rattle.report.proofs.Lines.{Part, ended-lt, ended-le, ended-owes}
 use Rattle.report.proofs.values.refusal_line.Statement.{statement}
 use Rattle.report.proofs.values.refusal_line.Tie as tie
 
--- where the call began
-abbrev begun : tie.After-put-end → tie.Start
-begun c = c .before .before .before .before .before .before
+-- what stands before the line end, and that it is in the buffer
+abbrev text : tie.After-put-byte → List ℕ
+text c = field "refused=" (decimal (c .before .before .before .args .n))
 
--- the whole line stands in the buffer
-whole : (c : tie.After-put-end) → Part (replicate 22 0) 0 (refusalLine (begun c .args .n)) 22 (c .put-end .last .0) (c .put-end .result)
-unfolding refusalLine
-whole c =
-    let d = c .before .before .before in
-    let n = d .before .before .before .args .n in
-    let l : List ℕ = replicate 22 0 in
-    let w = part-append l _ _ 0 _ _ _ 1 (field "refused=" (decimal n)) (ascii "\n") (d .put-byte .ensures) (c .put-end .ensures, omega arith) in
-    part-within l _ 0 _ 12 22 (field "refused=" (decimal n) ++ ascii "\n") (omega arith) w
+whole : (c : tie.After-put-byte) → Part (replicate 22 10) 0 (text c) 11 (c .put-byte .last .1 .1 .1 .0) (c .put-byte .result)
+whole c = c .put-byte .ensures
 
 slice-aggregate-put-byte : tie.Need-slice-aggregate-put-byte
-slice-aggregate-put-byte c = search needs
+slice-aggregate-put-byte c = omega arith
 
 put-byte-requires : tie.Need-put-byte-requires
 put-byte-requires c κs = tt
 
-slice-aggregate-put-end : tie.Need-slice-aggregate-put-end
-slice-aggregate-put-end c = search needs
-
-put-end-requires : tie.Need-put-end-requires
-put-end-requires c κs = tt
+add-line : tie.Need-add-line
+add-line c = record { fits = omega (arith, ended-lt 22 _ (text (c .before)) _ 11 (whole (c .before)) (omega arith)) }
 
 array-share-prefix-line : tie.Need-array-share-prefix-line
 array-share-prefix-line c =
     let w = c .before in
-    let e = line-end-le (replicate 22 0) _ (refusalLine (begun w .args .n)) _ 22 (whole w) (omega arith) in
-    omega (arith, e, w .put-end .kept .0, w .before .before .before .put-byte .kept .1 .1 .1 .0)
+    omega (arith, ended-lt 22 _ (text w) _ 11 (whole w) (omega arith), w .put-byte .kept .1 .1 .1 .0)
 
 slice-aggregate-place : tie.Need-slice-aggregate-place
 slice-aggregate-place c = sym (length-take-le _ _ (array-share-prefix-line (c .before)))
@@ -54,12 +42,13 @@ same-length : tie.Need-same-length
 same-length c = c .before .before .place .kept .1 .0
 
 returns : tie.Need-returns
+unfolding refusalLine
 returns c =
     let p = c .before .before in
     let w = p .before .before .before .before in
-    let a = begun w .args in
-    let o = line-owes (replicate 22 0) _ (refusalLine (a .n)) _ 22 (whole w) (omega arith) (a .out .now) _ (a .at) _ (p .place .ensures) in
-    (o .0, (o .1, whole w .1))
+    let a = w .before .before .before .args in
+    let o = ended-owes 22 _ (text w) _ 11 (whole w) (omega arith) (a .out .now) _ (a .at) _ (p .place .ensures) in
+    (o .0, (o .1, ended-le 22 _ (text w) _ 11 (whole w) (omega arith)))
 
 pub refusal-line-spec : {M : Type 1} → statement M
 refusal-line-spec =
@@ -67,8 +56,7 @@ refusal-line-spec =
     (tie.spec
     slice-aggregate-put-byte
     put-byte-requires
-    slice-aggregate-put-end
-    put-end-requires
+    add-line
     array-share-prefix-line
     slice-aggregate-place
     place-requires

@@ -1,40 +1,33 @@
--- `report::values::value_line` meets its contract: sign, digits and the line end make the line, which is then put into the buffer whole. Assumes nothing.
+-- `report::values::value_line` meets its contract: sign, digits and the line end after them, which are then put into the buffer whole. Assumes nothing.
 use mathlib.Core.Path.{sym}
-use mathlib.Core.List.{List}
-use Prim.Native.Nat.{ℕ}
 use native.Mathlib.Omega.{arith}
-use borrow.Author.Needs.{needs}
 use lib.ListN.{replicate}
 use lib.Seq.{length-take-le}
 use mir.Syntax.{w64}
 use mir.Val.{toZ, ofZ}
 use mir.ValLaws.{toZ-ofZ}
-use Rattle.text.specs.Text.{ascii, signed}
+use Rattle.text.specs.Text.{signed}
 use Rattle.text.proofs.Answers.{owed-put}
 use Rattle.text.proofs.Sizes.{signed-length-le}
 use Rattle.report.specs.Lines.{valueLine}
-use Rattle.report.proofs.Lines.{Part, part-append, line-end-le, line-owes}
+use Rattle.report.proofs.Lines.{Part, ended-lt, ended-le, ended-owes}
 use Rattle.report.proofs.values.value_line.Statement.{statement}
 use Rattle.report.proofs.values.value_line.Tie as tie
 
 -- where the call began
-abbrev begun : tie.After-put-end → tie.Start
-begun c = c .before .before .before .before .before .before .before
+abbrev begun : tie.After-end-of → tie.Start
+begun c = c .before .before .before .before .before
 
--- the whole line stands in the buffer
-whole : (c : tie.After-put-end) → Part (replicate 22 0) 0 (valueLine (begun c .args .x)) 22 (c .put-end .last .0) (c .put-end .result)
-unfolding valueLine
+-- what stands before the line end is in the buffer
+whole : (c : tie.After-end-of) → Part (replicate 22 10) 0 (signed (begun c .args .x)) 21 (c .before .before .signed .last .1 .0) (c .end-of .result)
 whole c =
-    let n = c .before .before in
-    let g = n .before .before in
-    let s = g .before .before .before in
+    let s = begun c in
     let x = s .args .x in
-    let l : List ℕ = replicate 22 0 in
-    let d = rw (toZ-ofZ w64 x (s .fits .x)) at (owed-put (signed (toZ w64 (ofZ w64 x))) 0 l _ _ _ (g .signed .ensures) (n .end-of .ensures)) in
-    part-append l _ _ 0 _ _ 21 1 (signed x) (ascii "\n") (d, signed-length-le x (s .fits .x)) (c .put-end .ensures, omega arith)
+    let d = owed-put (signed (toZ w64 (ofZ w64 x))) 0 (replicate 22 10) _ _ _ (c .before .before .signed .ensures) (c .end-of .ensures) in
+    (rw (toZ-ofZ w64 x (s .fits .x)) at d, signed-length-le x (s .fits .x))
 
 slice-aggregate-signed : tie.Need-slice-aggregate-signed
-slice-aggregate-signed c = search needs
+slice-aggregate-signed c = omega arith
 
 signed-requires : tie.Need-signed-requires
 signed-requires c κs = tt
@@ -42,17 +35,11 @@ signed-requires c κs = tt
 end-of-requires : tie.Need-end-of-requires
 end-of-requires c κs = tt
 
-slice-aggregate-put-end : tie.Need-slice-aggregate-put-end
-slice-aggregate-put-end c = search needs
-
-put-end-requires : tie.Need-put-end-requires
-put-end-requires c κs = tt
+add-line : tie.Need-add-line
+add-line c = record { fits = omega (arith, ended-lt 22 _ (signed (begun c .args .x)) _ 21 (whole c) (omega arith)) }
 
 array-share-prefix-line : tie.Need-array-share-prefix-line
-array-share-prefix-line c =
-    let w = c .before in
-    let e = line-end-le (replicate 22 0) _ (valueLine (begun w .args .x)) _ 22 (whole w) (omega arith) in
-    omega (arith, e, w .put-end .kept .0, w .before .before .before .before .signed .kept .1 .0)
+array-share-prefix-line c = omega (arith, ended-lt 22 _ (signed (begun c .args .x)) _ 21 (whole c) (omega arith), c .before .before .signed .kept .1 .0)
 
 slice-aggregate-place : tie.Need-slice-aggregate-place
 slice-aggregate-place c = sym (length-take-le _ _ (array-share-prefix-line (c .before)))
@@ -64,12 +51,13 @@ same-length : tie.Need-same-length
 same-length c = c .before .before .place .kept .1 .0
 
 returns : tie.Need-returns
+unfolding valueLine
 returns c =
     let p = c .before .before in
-    let w = p .before .before .before .before in
+    let w = p .before .before .before in
     let a = begun w .args in
-    let o = line-owes (replicate 22 0) _ (valueLine (a .x)) _ 22 (whole w) (omega arith) (a .out .now) _ (a .at) _ (p .place .ensures) in
-    (o .0, (o .1, whole w .1))
+    let o = ended-owes 22 _ (signed (a .x)) _ 21 (whole w) (omega arith) (a .out .now) _ (a .at) _ (p .place .ensures) in
+    (o .0, (o .1, ended-le 22 _ (signed (a .x)) _ 21 (whole w) (omega arith)))
 
 pub value-line-spec : {M : Type 1} → statement M
 value-line-spec =
@@ -78,8 +66,7 @@ value-line-spec =
     slice-aggregate-signed
     signed-requires
     end-of-requires
-    slice-aggregate-put-end
-    put-end-requires
+    add-line
     array-share-prefix-line
     slice-aggregate-place
     place-requires

@@ -3,10 +3,9 @@ use mathlib.Core.Path.{_≡_, refl}
 use Prim.Native.Nat.{_+_, _-_, _≤_, _<_}
 use native.Mathlib.Numerals.{add-one}
 use native.Mathlib.Omega.{arith}
-use lib.ListN.{length}
+use lib.ListN.{length, length-set}
 use lib.Seq.{paste, paste-zero, paste-suc, take-length}
 use Rattle.text.specs.Placing.{written}
-use borrow.Author.Needs.{needs}
 use Rattle.text.proofs.bytes.append.Statement.{statement}
 use Rattle.text.proofs.bytes.append.Tie as tie
 
@@ -40,13 +39,13 @@ loop-again c =
     let s = c .before .before .before .args in
     let h : s .at + L .i < length (s .out .now) = omega arith in
     let m : L .i < length (s .bytes .now) = omega arith in
-    (L .inv .0, omega arith, search needs, rw (L .inv .3, add-one) (paste-suc (s .out .now) (s .at) (s .bytes .now) (L .i) 0 h m))
+    (L .inv .0, omega arith, simp length-set (L .inv .2), rw (L .inv .3, add-one) (paste-suc (s .out .now) (s .at) (s .bytes .now) (L .i) 0 h m))
 
 add-result : tie.Need-add-result Inv-loop μ-loop
 add-result c = omega arith
 
 same-length : tie.Need-same-length Inv-loop μ-loop
-same-length c = search needs
+same-length c = c .before .loop .inv .2
 
 returns : tie.Need-returns Inv-loop μ-loop
 returns c =

@@ -1,13 +1,14 @@
 -- `text::bytes::end_of` meets its contract: each answer has its end. Assumes nothing.
+use native.Mathlib.Omega.{arith}
 use borrow.Author.Needs.{needs}
 use Rattle.text.proofs.bytes.end_of.Statement.{statement}
 use Rattle.text.proofs.bytes.end_of.Tie as tie
 
 enum-known-answer : tie.Need-enum-known-answer
-enum-known-answer c = search needs
+enum-known-answer c = omega arith
 
 enum-told : tie.Need-enum-told
-enum-told c = search needs
+enum-told c = omega arith
 
 returns : tie.Need-returns
 returns c = search needs

@@ -42,14 +42,11 @@ write-long-requires t c κs =
     let s = c .before .before .before in
     (omega arith, (omega arith, omega (arith, decimal-length-more (s .args .n) (omega arith))))
 
-cast-write-pair : (t : ℕ) → lts.Need-cast-write-pair (claims t) (at·t t) own.Post
-cast-write-pair t c = record { fits = omega arith }
-
 write-pair-requires : (t : ℕ) → lts.Need-write-pair-requires (claims t) (at·t t) own.Post
 write-pair-requires t c κs =
     let d = c .before .before .before in
     let s = d .before .before .before .before in
-    (omega arith, omega (arith, d .write-long .ensures .0, decimal-length-more (s .args .n) (omega arith)))
+    omega (arith, d .write-long .ensures .0, decimal-length-more (s .args .n) (omega arith))
 
 same-length-2 : (t : ℕ) → lts.Need-same-length-2 (claims t) (at·t t) own.Post
 same-length-2 t c =
@@ -69,7 +66,6 @@ pub +write-long-spec : {M : Type 1} → statement M
     (same-length t)
     (returns t)
     (write-long-requires t)
-    (cast-write-pair t)
     (write-pair-requires t)
     (same-length-2 t)
     (returns-2 t)

@@ -5,9 +5,6 @@ use Rattle.text.proofs.Pairs.{decimal-length-more, decimal-put}
 use Rattle.text.proofs.decimal.write_decimal.Statement.{statement}
 use Rattle.text.proofs.decimal.write_decimal.Tie as tie
 
-cast-write-small : tie.Need-cast-write-small
-cast-write-small c = record { fits = omega arith }
-
 write-small-requires : tie.Need-write-small-requires
 write-small-requires c κs = omega arith
 
@@ -31,14 +28,11 @@ write-hundreds-requires-2 c κs =
     let s = c .before .before .before .before .before in
     (omega arith, omega arith, omega (arith, decimal-length-more (s .args .n) (omega arith)))
 
-cast-write-pair : tie.Need-cast-write-pair
-cast-write-pair c = record { fits = omega arith }
-
 write-pair-requires : tie.Need-write-pair-requires
 write-pair-requires c κs =
     let d = c .before .before .before in
     let s = d .before .before .before .before .before .before in
-    (omega arith, omega (arith, d .write-hundreds2 .ensures .0, decimal-length-more (s .args .n) (omega arith)))
+    omega (arith, d .write-hundreds2 .ensures .0, decimal-length-more (s .args .n) (omega arith))
 
 same-length-3 : tie.Need-same-length-3
 same-length-3 c =
@@ -65,7 +59,6 @@ pub write-decimal-spec : {M : Type 1} → statement M
 write-decimal-spec =
     tie.close
     (tie.spec
-    cast-write-small
     write-small-requires
     same-length
     returns
@@ -73,7 +66,6 @@ write-decimal-spec =
     same-length-2
     returns-2
     write-hundreds-requires-2
-    cast-write-pair
     write-pair-requires
     same-length-3
     returns-3

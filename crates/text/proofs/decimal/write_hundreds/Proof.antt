@@ -5,22 +5,16 @@ use Rattle.text.proofs.Pairs.{decimal-length-more, decimal-put}
 use Rattle.text.proofs.decimal.write_hundreds.Statement.{statement}
 use Rattle.text.proofs.decimal.write_hundreds.Tie as tie
 
-cast-write-small : tie.Need-cast-write-small
-cast-write-small c = record { fits = omega arith }
-
 write-small-requires : tie.Need-write-small-requires
 write-small-requires c κs =
     let s = c .before .before in
     (omega arith, omega (arith, decimal-length-more (s .args .n) (s .pre .0)))
 
-cast-write-pair : tie.Need-cast-write-pair
-cast-write-pair c = record { fits = omega arith }
-
 write-pair-requires : tie.Need-write-pair-requires
 write-pair-requires c κs =
     let d = c .before .before .before in
     let s = d .before .before .before in
-    (omega arith, omega (arith, d .write-small .ensures .0, decimal-length-more (s .args .n) (s .pre .0)))
+    omega (arith, d .write-small .ensures .0, decimal-length-more (s .args .n) (s .pre .0))
 
 same-length : tie.Need-same-length
 same-length c =
@@ -38,9 +32,7 @@ pub write-hundreds-spec : {M : Type 1} → statement M
 write-hundreds-spec =
     tie.close
     (tie.spec
-    cast-write-small
     write-small-requires
-    cast-write-pair
     write-pair-requires
     same-length
     returns)

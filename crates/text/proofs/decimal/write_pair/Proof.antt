@@ -8,6 +8,9 @@ use Rattle.text.proofs.Puts.{pair-put}
 use Rattle.text.proofs.decimal.write_pair.Statement.{statement}
 use Rattle.text.proofs.decimal.write_pair.Tie as tie
 
+cast-pair : tie.Need-cast-pair
+cast-pair c = record { fits = omega arith }
+
 add-out : tie.Need-add-out
 add-out c = omega arith
 
@@ -23,7 +26,7 @@ add-out-3 c = omega arith
 slice-write-out-2 : tie.Need-slice-write-out-2
 slice-write-out-2 c =
     let a = c .args in
-    omega (arith, length-set (a .out .now) (a .at) (digitByte (a .n / 10)))
+    omega (arith, length-set (a .out .now) (a .at) (digitByte (a .n % 100 / 10)))
 
 add-result : tie.Need-add-result
 add-result c = omega arith
@@ -31,17 +34,18 @@ add-result c = omega arith
 same-length : tie.Need-same-length
 same-length c =
     let a = c .args in
-    length-set (set (a .out .now) (a .at) (digitByte (a .n / 10))) (a .at + 1) (digitByte (a .n % 10)) ∙ length-set (a .out .now) (a .at) (digitByte (a .n / 10))
+    length-set (set (a .out .now) (a .at) (digitByte (a .n % 100 / 10))) (a .at + 1) (digitByte (a .n % 100 % 10)) ∙ length-set (a .out .now) (a .at) (digitByte (a .n % 100 / 10))
 
 returns : tie.Need-returns
 returns c =
     let a = c .args in
-    pair-put (a .out .now) (a .at) (digitByte (a .n / 10)) (digitByte (a .n % 10)) (omega arith)
+    pair-put (a .out .now) (a .at) (digitByte (a .n % 100 / 10)) (digitByte (a .n % 100 % 10)) (omega arith)
 
 pub write-pair-spec : {M : Type 1} → statement M
 write-pair-spec =
     tie.close
     (tie.spec
+    cast-pair
     add-out
     slice-write-out
     add-out-2

@@ -1,4 +1,6 @@
 -- `text::decimal::write_small` meets its contract: a number below ten has one digit, one below a hundred two. Assumes nothing.
+use mathlib.Core.Path.{_≡_}
+use Prim.Native.Nat.{_%_}
 use native.Mathlib.Omega.{arith}
 use lib.ListN.{length-set}
 use Rattle.bits.specs.Ascii.{digitByte}
@@ -6,6 +8,9 @@ use Rattle.text.proofs.Decimals.{decimal-one, decimal-two}
 use Rattle.text.proofs.Puts.{byte-put}
 use Rattle.text.proofs.decimal.write_small.Statement.{statement}
 use Rattle.text.proofs.decimal.write_small.Tie as tie
+
+cast-out : tie.Need-cast-out
+cast-out c = record { fits = omega arith }
 
 add-out : tie.Need-add-out
 add-out c = omega arith
@@ -35,7 +40,7 @@ write-pair-requires : tie.Need-write-pair-requires
 write-pair-requires c κs =
     let s = c .before .before .before in
     let p = rw (decimal-two (s .args .n) (omega arith) (s .pre .0)) at (s .pre .1) in
-    (s .pre .0, omega (arith, p))
+    omega (arith, p)
 
 same-length-2 : tie.Need-same-length-2
 same-length-2 c = c .before .before .write-pair .kept .1 .0
@@ -44,12 +49,14 @@ returns-2 : tie.Need-returns-2
 returns-2 c =
     let w = c .before .before in
     let s = w .before .before .before .before in
-    rw (decimal-two (s .args .n) (omega arith) (s .pre .0)) (w .write-pair .ensures)
+    let e : s .args .n % 100 ≡ s .args .n = omega arith in
+    rw (decimal-two (s .args .n) (omega arith) (s .pre .0)) (rw e at (w .write-pair .ensures))
 
 pub write-small-spec : {M : Type 1} → statement M
 write-small-spec =
     tie.close
     (tie.spec
+    cast-out
     add-out
     slice-write-out
     add-result

@@ -1,14 +1,16 @@
 -- `text::fields::number` meets its contract: where there is room for twenty digits there is room for the number. Assumes nothing.
-use mathlib.Core.Path.{_≡_}
+use mathlib.Core.Path.{_≡_, _∙_}
 use mathlib.Core.List.{_++_}
 use Prim.Native.Nat.{_+_, _≤_}
 use native.Mathlib.Omega.{arith}
 use lib.ListN.{length, take}
+use lib.Seq.{length-take-le}
 use mir.Syntax.{w8}
 use borrow.Kind.Array.{eInt, good-length}
 use Rattle.text.specs.Text.{decimal}
 use Rattle.text.proofs.Answers.{room-owes, test-room}
 use Rattle.text.proofs.Decimals.{decimal-length}
+use Rattle.text.proofs.Puts.{put-append}
 use Rattle.text.proofs.Widths.{within-le, field-is, field-length-within}
 use Rattle.text.proofs.fields.number.Statement.{statement}
 use Rattle.text.proofs.fields.number.Tie as tie
@@ -40,45 +42,46 @@ add-is-too-short c = omega (arith, fits c)
 is-too-short-requires : tie.Need-is-too-short-requires
 is-too-short-requires c κs = tt
 
-counted-number-requires : tie.Need-counted-number-requires
-counted-number-requires c κs = fits (c .before .before .before)
+placed-number-requires : tie.Need-placed-number-requires
+placed-number-requires c κs = fits (c .before .before .before)
 
 same-length : tie.Need-same-length
-same-length c = c .before .before .counted-number .kept .1 .1 .1 .0
+same-length c = c .before .before .placed-number .kept .1 .1 .1 .0
 
 returns : tie.Need-returns
-returns c =
-    let l = c .before .before in
-    rw (text-is (l .before .before .before .before)) at (l .counted-number .ensures)
+returns c = rw (text-is (c .before .before .before .before .before .before)) at (c .before .before .placed-number .ensures)
 
 -- where the test found room
 room : (c : tie.Else1) → let w = c .before .before in let a = w .before .before .args in a .at + (w .within-name .result + 20) ≤ length (a .out .now)
-room c =
-    let t = c .before in
-    let w = t .before in
-    let a = w .before .before .args in
-    test-room (length (a .out .now)) (a .at) (w .within-name .result + 20) (t .is-too-short .result) (t .is-too-short .ensures) (c .if1 .left)
+room c = test-room _ _ _ _ (c .before .is-too-short .ensures) (c .if1 .left)
 
-write-number-requires : tie.Need-write-number-requires
-write-number-requires c κs =
-    let e = c .before in
-    let w = e .before .before in
-    (fits w, omega (arith, digits (w .before .before), room e))
+write-name-requires : tie.Need-write-name-requires
+write-name-requires c κs = (fits (c .before .before .before), omega (arith, room (c .before)))
+
+write-decimal-requires : tie.Need-write-decimal-requires
+write-decimal-requires c κs =
+    let n = c .before .before .before in
+    let w = n .before .before .before .before in
+    let s = w .before .before in
+    omega (arith, length-take-le (w .within-name .result) (s .args .name) (omega (arith, fits w, size s)), n .write-name .ensures .0, n .write-name .kept .1 .1 .0, digits s, room (n .before .before))
 
 same-length-2 : tie.Need-same-length-2
-same-length-2 c = c .before .before .write-number .kept .1 .1 .1 .0
+same-length-2 c =
+    let d = c .before .before in
+    d .write-decimal .kept .1 .0 ∙ d .before .before .before .before .write-name .kept .1 .1 .0
 
 returns-2 : tie.Need-returns-2
 returns-2 c =
-    let l = c .before .before in
-    let e = l .before .before in
-    let t = e .before in
-    let w = t .before in
+    let d = c .before .before in
+    let n = d .before .before .before .before in
+    let e = n .before .before in
+    let w = e .before .before in
     let s = w .before .before in
     let a = s .args in
-    let n = field-length-within (a .name) (size s) (a .width) (w .within-name .result) (w .within-name .ensures) (decimal (a .n)) in
+    let p = put-append (a .out .now) _ _ (a .at) _ _ (take (w .within-name .result) (a .name)) (decimal (a .n)) (omega (arith, room e)) (n .write-name .ensures) (d .write-decimal .ensures) in
+    let l = field-length-within (a .name) (size s) (a .width) (w .within-name .result) (w .within-name .ensures) (decimal (a .n)) in
     room-owes (take (a .width) (a .name) ++ decimal (a .n)) (a .at) (a .out .now) _ _
-    (omega (arith, n, digits s, room e)) (rw (text-is w) at (l .write-number .ensures))
+    (omega (arith, digits s, room e)) (rw (text-is w) at p)
 
 pub number-spec : {M : Type 1} → statement M
 number-spec =
@@ -87,9 +90,10 @@ number-spec =
     within-name-requires
     add-is-too-short
     is-too-short-requires
-    counted-number-requires
+    placed-number-requires
     same-length
     returns
-    write-number-requires
+    write-name-requires
+    write-decimal-requires
     same-length-2
     returns-2)

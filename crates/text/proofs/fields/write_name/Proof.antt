@@ -1,12 +1,12 @@
--- `text::names::write_name` meets its contract: the part of the name that is appended has so many bytes. Assumes nothing.
+-- `text::fields::write_name` meets its contract: the part of the name that is appended has so many bytes. Assumes nothing.
 use mathlib.Core.Path.{_≡_, sym}
 use native.Mathlib.Omega.{arith}
 use lib.ListN.{length, take}
 use lib.Seq.{length-take-le}
 use mir.Syntax.{w8}
 use borrow.Kind.Array.{eInt, good-length}
-use Rattle.text.proofs.names.write_name.Statement.{statement}
-use Rattle.text.proofs.names.write_name.Tie as tie
+use Rattle.text.proofs.fields.write_name.Statement.{statement}
+use Rattle.text.proofs.fields.write_name.Tie as tie
 
 -- how many bytes there are
 taken : (c : tie.Start) → length (take (c .args .width) (c .args .t1)) ≡ c .args .width
