@@ -7,7 +7,7 @@ use crate::bytes::place;
 use crate::decimal::write_decimal;
 ghost use mathlib.Core.Path.{_≡_};
 ghost use Prim.Native.Nat.{_+_, _≤_};
-ghost use mathlib.Core.List.{[], _∷_, _++_};
+ghost use mathlib.Core.List.{_++_};
 ghost use lib.ListN.{length, take};
 ghost use Rattle.text.specs.Text.{decimal};
 ghost use Rattle.text.specs.Placing.{within, written, placeAnswer, placeWrites};
@@ -38,20 +38,6 @@ pub fn name(name: Name, width: usize, out: &mut [u8], at: usize) -> LineAnswer
 {
     let end = within_name(width);
     place(&name[..end], out, at)
-}
-
-// A name, and a byte after it. Refused: 1, the buffer ends before the text.
-pub fn letter(name: Name, width: usize, letter: u8, out: &mut [u8], at: usize) -> LineAnswer
-    ensures answer { λ r. ⌜ r ≡ placeAnswer (take width name ++ (letter ∷ [])) at (length (now (out .entry))) ⌝ }
-    ensures written { λ _. ⌜ now (out .exit) ≡ placeWrites (take width name ++ (letter ∷ [])) at (now (out .entry)) ⌝ }
-{
-    let end = within_name(width);
-    if is_too_short(out.len(), at, end + 1) {
-        return LineAnswer::Refused(1);
-    }
-    let last = write_name(name, end, out, at);
-    out[last] = letter;
-    LineAnswer::Written(last + 1)
 }
 
 // A name, and a number after it. Refused: 1, the buffer ends before the text. Where there is room for the longest

@@ -1,7 +1,7 @@
 // Text as bytes in a lent buffer, of any length. Each call writes a whole text from `at` on and answers where it
 // ends; where the buffer ends before the text, it writes nothing and answers with refusal 1.
 //
-//   fields   a name, and a letter or a number after it
+//   fields   a name, and a number after it
 //   signs    a signed number
 //   decimal  numbers, where there is room
 //   bytes    bytes put one after another
@@ -12,7 +12,6 @@ mod signs;
 
 pub use bytes::end_of;
 pub use bytes::place;
-pub use fields::letter;
 pub use fields::name;
 pub use fields::number;
 pub use signs::signed;
