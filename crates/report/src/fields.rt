@@ -58,7 +58,7 @@ fn flag_of(set: bool) -> u8
     b'0'
 }
 
-// A name with a letter at its seventh byte, after a name of its own.
+// Two parts in one name: the letter of the first is its seventh byte.
 fn with_letter(name: Name, letter: u8) -> Name
     ensures { λ r. ⌜ r ≡ set name 6 letter ⌝ }
 {

@@ -1,4 +1,4 @@
-// The first and the last line of a call.
+// The first and the last line of a call. The last is built in a buffer of line ends, so that its own stands after it.
 use crate::parts::put_number;
 use text::LineAnswer;
 use text::Name;

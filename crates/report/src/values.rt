@@ -1,4 +1,4 @@
-// The line of a value, and of a refusal.
+// The line of a value, and of a refusal. Each is built in a buffer of line ends, so that its own stands after it.
 use crate::parts::put_byte;
 use text::LineAnswer;
 use text::Name;
