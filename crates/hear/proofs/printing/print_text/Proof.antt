@@ -25,6 +25,10 @@ opened c = c .before .before .before .before .before
 abbrev begun : tie.After-end-of2 → tie.Start
 begun c = opened (printed (made c)) .before .before .before .before
 
+-- the buffer has all its bytes after the frames
+full : (p : tie.After-print-frames) → length (p .print-frames .last .1 .0) ≡ 65536
+full p = p .print-frames .kept .1 .0 ∙ opened p .first-line .kept .0 ∙ opened p .before .before .before .before .pre .1
+
 -- the whole text is sent or waits
 whole : (c : tie.After-end-of2)
     → Pending (text (begun c .args .bytes .now)) (made c .make-room .result .sent .count) (c .end-of2 .result) (c .before .before .before .last-line .last .1 .1 .1 .0)
@@ -39,8 +43,7 @@ whole c =
     let r = m .make-room .ensures in
     let count : m .make-room .result .repeats ≡ repeatsBefore bytes n = r .1 .0 ∙ p .print-frames .ensures .0 in
     let last = lastLine n (m .make-room .result .repeats) (leftIn bytes) in
-    let size = p .print-frames .kept .1 .0 ∙ opened p .first-line .kept .0 ∙ begun c .pre .1 in
-    let q = line-added last _ _ (m .make-room .result .end) 144 _ _ (l .last-line .ensures) (c .end-of2 .ensures) (omega (arith, r .1 .1 .1, size)) in
+    let q = line-added last _ _ (m .make-room .result .end) 144 _ _ (l .last-line .ensures) (c .end-of2 .ensures) (omega (arith, r .1 .1 .1, full p)) in
     let Waits : ℕ → Type 0 =
     λ (k : ℕ). Pending (textBefore bytes n ++ lastLine n k (leftIn bytes)) (m .make-room .result .sent .count) (c .end-of2 .result) (l .last-line .last .1 .1 .1 .0) in
     (subst Waits count (pending-more (textBefore bytes n) _ _ _ (r .1 .1 .0) _ _ _ (q .0)), q .1)
@@ -73,8 +76,7 @@ make-room-requires : tie.Need-make-room-requires
 make-room-requires c κs =
     let p = c .before .before .before in
     let f = p .print-frames .ensures in
-    let s = opened p .before .before .before .before in
-    ((omega arith, f .1 .1 .0), (p .print-frames .kept .1 .0 ∙ opened p .first-line .kept .0 ∙ s .pre .1, f .1 .1 .1, omega (arith, f .1 .0)))
+    ((omega arith, f .1 .1 .0), (full p, f .1 .1 .1, omega (arith, f .1 .0)))
 
 last-line-requires : tie.Need-last-line-requires
 last-line-requires c κs = search needs

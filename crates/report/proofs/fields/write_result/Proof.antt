@@ -30,30 +30,46 @@ put-number-requires-2 c κs = tt
 write-state-requires : tie.Need-write-state-requires
 write-state-requires c κs = tt
 
+-- the stations on the way back: the second level, the first, the set and the kind's letter were put, the call began
+abbrev second-put : tie.After-write-state → tie.After-put-number2
+second-put c = c .before .before .before .before
+
+abbrev first-put : tie.After-put-number2 → tie.After-put-number
+first-put c = c .before .before .before .before .before
+
+abbrev set-put : tie.After-put-number → tie.After-write-set
+set-put c = c .before .before .before .before .before
+
+abbrev lettered : tie.After-write-set → tie.After-letter-of
+lettered c = c .before .before
+
+abbrev begun : tie.After-write-set → tie.Start
+begun c = lettered c .before .before
+
 same-length : tie.Need-same-length
 same-length c =
     let d4 = c .before .before in
-    let d3 = d4 .before .before .before .before in
-    let d2 = d3 .before .before .before .before .before in
-    let d1 = d2 .before .before .before .before .before in
+    let d3 = second-put d4 in
+    let d2 = first-put d3 in
+    let d1 = set-put d2 in
     d4 .write-state .kept .1 .1 .1 .0 ∙ d3 .put-number2 .kept .1 .1 .1 .0 ∙ d2 .put-number .kept .1 .1 .1 .0 ∙ d1 .write-set .kept .1 .1 .0
 
 -- a level has 32 bits
-first-lt : (c : tie.After-struct-known) → c .before .before .before .before .before .before .before .args .result .first < 2 ^ 32
+first-lt : (c : tie.After-put-number) → begun (set-put c) .args .result .first < 2 ^ 32
 first-lt c = omega arith
 
-second-lt : (c : tie.After-struct-known2) → c .before .before .before .before .before .before .before .before .before .before .before .before .args .result .second < 2 ^ 32
+second-lt : (c : tie.After-put-number2) → begun (set-put (first-put c)) .args .result .second < 2 ^ 32
 second-lt c = omega arith
 
 returns : tie.Need-returns
 unfolding resultText
 returns c =
     let d4 = c .before .before in
-    let d3 = d4 .before .before .before .before in
-    let d2 = d3 .before .before .before .before .before in
-    let d1 = d2 .before .before .before .before .before in
-    let k = d1 .before .before in
-    let a = k .before .before .args in
+    let d3 = second-put d4 in
+    let d2 = first-put d3 in
+    let d1 = set-put d2 in
+    let k = lettered d1 in
+    let a = begun d1 .args in
     let l = a .line .now in
     let r = a .result in
     let p1 = field " kind=" (k .letter-of .result ∷ []) ++ setText (r .set) in
@@ -62,8 +78,8 @@ returns c =
     let sync = field " sync=" (flag (r .sync)) in
     let fixed = field " fixed=" (decimal (r .repaired)) in
     let mute = field " mute=" (flag (r .mute)) in
-    let g1 = level-part _ _ _ _ (ascii " g1=") (r .first) (first-lt (d2 .before .before)) (d2 .put-number .ensures .0) in
-    let g2 = level-part _ _ _ _ (ascii " g2=") (r .second) (second-lt (d3 .before .before)) (d3 .put-number2 .ensures .0) in
+    let g1 = level-part _ _ _ _ (ascii " g1=") (r .first) (first-lt d2) (d2 .put-number .ensures .0) in
+    let g2 = level-part _ _ _ _ (ascii " g2=") (r .second) (second-lt d3) (d3 .put-number2 .ensures .0) in
     let w2 = part-append l _ _ (a .at) _ _ _ _ p1 p2 (d1 .write-set .ensures) g1 in
     let w3 = part-append l _ _ (a .at) _ _ _ _ (p1 ++ p2) p3 w2 g2 in
     let p = p1 ++ p2 ++ p3 in

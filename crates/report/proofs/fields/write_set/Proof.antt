@@ -39,25 +39,34 @@ put-byte-requires-2 c κs = tt
 put-byte-requires-3 : tie.Need-put-byte-requires-3
 put-byte-requires-3 c κs = tt
 
+-- the stations on the way back: the pitch was put, the call began
+abbrev pitch-put : tie.After-write-lsf → tie.After-write-pitch
+pitch-put c = c .before .before .before .before .before
+
+abbrev begun : tie.After-write-lsf → tie.Start
+begun c = pitch-put c .before .before .before
+
 -- what comes after the indices completes the set
-whole : (c : tie.After-write-lsf) (after : List ℕ) (end : ℕ) → let a = c .before .before .before .before .before .before .before .before .args in
+whole : (c : tie.After-write-lsf) (after : List ℕ) (end : ℕ) → let a = begun c .args in
     Part (c .write-lsf .last .1 .0) (c .write-lsf .result) (voicingText (a .set)) 21 after end → Part (a .line .now) (a .at) (field " kind=" (a .letter ∷ []) ++ setText (a .set)) 58 after end
 unfolding setText
 whole c after end v =
     let i = c .before .before in
-    let p = i .before .before .before in
-    let a = p .before .before .before .args in
+    let p = pitch-put c in
+    let a = begun c .args in
     let k = field " kind=" (a .letter ∷ []) ++ pitchText (a .set) in
     let x = lsfText (indicesIn (a .set)) in
     let w = part-append (a .line .now) _ _ (a .at) _ _ _ _ k x (p .write-pitch .ensures) (rw (i .indices-of .ensures) at (c .write-lsf .ensures)) in
     part-append (a .line .now) _ _ (a .at) _ _ _ _ (k ++ x) (voicingText (a .set)) w v
 
 -- the line's length up to there
-kept : (c : tie.After-write-lsf) → length (c .write-lsf .last .1 .0) ≡ length (c .before .before .before .before .before .before .before .before .args .line .now)
-kept c = c .write-lsf .kept .1 .0 ∙ c .before .before .before .before .before .write-pitch .kept .1 .1 .0
+kept : (c : tie.After-write-lsf) → length (c .write-lsf .last .1 .0) ≡ length (begun c .args .line .now)
+kept c = c .write-lsf .kept .1 .0 ∙ pitch-put c .write-pitch .kept .1 .1 .0
 
 same-length : tie.Need-same-length
-same-length c = c .before .before .put-name .kept .1 .1 .0 ∙ kept (c .before .before .before .before .before .before .before .before)
+same-length c =
+    let d = c .before .before in
+    d .put-name .kept .1 .1 .0 ∙ kept (d .before .before .before .before .before .before)
 
 returns : tie.Need-returns
 returns c =
