@@ -1,8 +1,7 @@
--- Document 01, "Program hear": its lines. And the lines of a value and of a refusal, as "LSF and magnitude values" has them printed.
+-- Document 01, "Program hear": its lines.
 use Prim.Native.Nat.{ℕ}
 use mathlib.Core.Bool.{Bool, true, false}
 use mathlib.Core.List.{List, _++_}
-use lib.IntN.{ℤ}
 use Rattle.sets.specs.Sets.{indicesIn}
 use Rattle.sets.specs.declared.Indices.{Indices}
 use Rattle.sets.specs.declared.ParameterSet.{ParameterSet}
@@ -13,7 +12,7 @@ use Rattle.receiver.specs.declared.Kind.the-variants.{Repeat}
 use Rattle.receiver.specs.declared.Kind.the-variants.{Unvoiced as Kind·Unvoiced, Voiced as Kind·Voiced}
 use Rattle.receiver.specs.declared.ReceiveAnswer.{ReceiveAnswer}
 use Rattle.receiver.specs.declared.ReceiveAnswer.the-variants.{Result, Refused}
-use Rattle.text.specs.Text.{ascii, decimal, signed, field}
+use Rattle.text.specs.Text.{ascii, decimal, field}
 
 -- the first line: the grains in a dB, and the order of the bits
 abbrev pub firstLine : List ℕ
@@ -70,11 +69,3 @@ frameLine k answer = field "frame=" (decimal k) ++ answerText answer ++ ascii "\
 -- the last line: how many frames, how many of them repeats, how many bytes after the last whole frame
 unfoldable pub lastLine : ℕ → ℕ → ℕ → List ℕ
 lastLine frames repeats left = field "frames=" (decimal frames) ++ field " repeats=" (decimal repeats) ++ field " left=" (decimal left) ++ ascii "\n"
-
--- the line of a value
-unfoldable pub valueLine : ℤ → List ℕ
-valueLine x = signed x ++ ascii "\n"
-
--- the line of a refusal, where nothing else is printed
-unfoldable pub refusalLine : ℕ → List ℕ
-refusalLine n = field "refused=" (decimal n) ++ ascii "\n"

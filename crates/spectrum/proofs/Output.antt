@@ -8,7 +8,7 @@ use lib.ListN.{length, getD, take}
 use lib.IntN.{ℤ}
 use lib.Seq.{length-take-le}
 use Rattle.io.specs.Counts.{Counts}
-use Rattle.report.specs.Lines.{valueLine, refusalLine}
+use Rattle.value_lines.specs.Lines.{valueLine, refusalLine}
 use Rattle.spectrum.specs.Lines.{lines, textUnless}
 
 -- the lines of one number more

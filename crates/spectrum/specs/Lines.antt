@@ -2,7 +2,7 @@
 use Prim.Native.Nat.{ℕ, zero, suc}
 use mathlib.Core.List.{List, [], _∷_, _++_}
 use lib.IntN.{ℤ}
-use Rattle.report.specs.Lines.{valueLine, refusalLine}
+use Rattle.value_lines.specs.Lines.{valueLine, refusalLine}
 use Rattle.spectrum.specs.declared.values.Spectrum.{Spectrum}
 
 -- a line for each number

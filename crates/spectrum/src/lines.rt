@@ -1,8 +1,8 @@
 // Values as text: one number a line, or the line of a refusal.
 use crate::values::Spectrum;
-use report::refusal_line;
-use report::value_line;
 use text::end_of;
+use value_lines::refusal_line;
+use value_lines::value_line;
 ghost use mathlib.Core.Path.{_≡_};
 ghost use Prim.Native.Nat.{_+_, _≤_};
 ghost use lib.ListN.{length, take};

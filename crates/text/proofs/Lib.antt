@@ -6,3 +6,4 @@ pub mod Decimals
 pub mod Pairs
 pub mod Widths
 pub mod Sizes
+pub mod Parts

@@ -4,8 +4,7 @@ use mathlib.Core.List.{List}
 use Prim.Native.Nat.{ℕ}
 use lib.ListN.{length, take}
 use borrow.Author.Needs.{needs}
-use Rattle.bits.specs.Lists.{ReadFrom}
-use Rattle.hear.specs.Call.{text}
+use Rattle.hear.specs.Call.{text, AllPrinted}
 use Rattle.hear.proofs.printing.print_call.Statement.{statement}
 use Rattle.hear.proofs.printing.print_call.Tie as tie
 
@@ -21,14 +20,14 @@ slice-aggregate-print-text-2 c = search needs
 print-text-requires : tie.Need-print-text-requires
 print-text-requires c κs = search needs
 
--- what was read, by the size of the buffer
-read-is : (buffer input : List ℕ) (size n : ℕ) → length buffer ≡ n → ReadFrom buffer size input → take size buffer ≡ take n input
-read-is buffer input size n e read = read ∙ ap (λ (m : ℕ). take m input) e
+-- the text of what a buffer of 65,534 bytes was read to is what is printed
+all-printed : (buffer : List ℕ) (size count : ℕ) → length buffer ≡ 65534 → count ≡ length (text (take size buffer)) → AllPrinted buffer size count
+all-printed buffer size count e h input read = h ∙ ap (λ (l : List ℕ). length (text l)) (read ∙ ap (λ (m : ℕ). take m input) e)
 
 returns : tie.Need-returns
-returns c input read =
+returns c =
     let s = c .before .before .before .before .before .before in
-    c .before .print-text .ensures ∙ ap (λ (l : List ℕ). length (text l)) (read-is (s .args .input .now) input (s .args .size) 65534 (s .pre .0) read)
+    all-printed (s .args .input .now) (s .args .size) _ (s .pre .0) (c .before .print-text .ensures)
 
 pub print-call-spec : {M : Type 1} → statement M
 print-call-spec = tie.close (tie.spec large-buffer-requires slice-aggregate-print-text slice-aggregate-print-text-2 print-text-requires returns)

@@ -3,7 +3,7 @@ use mathlib.Core.Path.{_∙_}
 use mathlib.Core.List.{_++_}
 use Rattle.text.specs.Text.{decimal, field}
 use Rattle.report.specs.Lines.{lsfText}
-use Rattle.report.proofs.Lines.{part-append}
+use Rattle.text.proofs.Parts.{part-append}
 use Rattle.report.proofs.fields.write_lsf.Statement.{statement}
 use Rattle.report.proofs.fields.write_lsf.Tie as tie
 

@@ -3,7 +3,7 @@ use mathlib.Core.List.{[], _∷_, _++_}
 use native.Mathlib.Omega.{arith}
 use lib.Dec.{lit≤}
 use Rattle.text.specs.Text.{ascii, field}
-use Rattle.report.proofs.Lines.{part-within}
+use Rattle.text.proofs.Parts.{part-within}
 use Rattle.report.proofs.fields.write_pitch.Statement.{statement}
 use Rattle.report.proofs.fields.write_pitch.Tie as tie
 

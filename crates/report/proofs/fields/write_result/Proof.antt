@@ -5,7 +5,7 @@ use Prim.Native.Nat.{_^_, _<_}
 use native.Mathlib.Omega.{arith}
 use Rattle.text.specs.Text.{ascii, decimal, field}
 use Rattle.report.specs.Lines.{setText, flag, resultText}
-use Rattle.report.proofs.Lines.{part-append, part-group, level-part}
+use Rattle.text.proofs.Parts.{part-append, part-group, level-part}
 use Rattle.report.proofs.fields.write_result.Statement.{statement}
 use Rattle.report.proofs.fields.write_result.Tie as tie
 

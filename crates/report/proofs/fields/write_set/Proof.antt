@@ -8,7 +8,7 @@ use lib.ListN.{length}
 use Rattle.text.specs.Text.{field}
 use Rattle.sets.specs.Sets.{indicesIn}
 use Rattle.report.specs.Lines.{pitchText, lsfText, voicingText, setText}
-use Rattle.report.proofs.Lines.{Part, part-append, part-within}
+use Rattle.text.proofs.Parts.{Part, part-append, part-within}
 use Rattle.report.proofs.fields.write_set.Statement.{statement}
 use Rattle.report.proofs.fields.write_set.Tie as tie
 

@@ -2,7 +2,7 @@
 use mathlib.Core.Path.{_∙_}
 use mathlib.Core.List.{[], _∷_, _++_}
 use Rattle.text.specs.Text.{ascii, decimal, field}
-use Rattle.report.proofs.Lines.{part-append}
+use Rattle.text.proofs.Parts.{part-append}
 use Rattle.report.proofs.fields.write_state.Statement.{statement}
 use Rattle.report.proofs.fields.write_state.Tie as tie
 

@@ -6,7 +6,7 @@ use lib.ListN.{length, replicate}
 use lib.Seq.{length-take-le}
 use Rattle.text.proofs.Answers.{room-owes}
 use Rattle.report.specs.Lines.{frameLine}
-use Rattle.report.proofs.Lines.{line-end-le, line-owes}
+use Rattle.text.proofs.Parts.{line-end-le, line-owes}
 use Rattle.report.proofs.frames.frame_line.Statement.{statement}
 use Rattle.report.proofs.frames.frame_line.Tie as tie
 

@@ -5,7 +5,7 @@ use native.Mathlib.Omega.{arith}
 use lib.Dec.{lit≤}
 use Rattle.text.specs.Text.{ascii, decimal, field}
 use Rattle.report.specs.Lines.{resultText, frameLine}
-use Rattle.report.proofs.Lines.{part-append, part-group, part-within}
+use Rattle.text.proofs.Parts.{part-append, part-group, part-within}
 use Rattle.report.proofs.frames.write_frame.Statement.{statement}
 use Rattle.report.proofs.frames.write_frame.Tie as tie
 

@@ -2,7 +2,7 @@
 use native.Mathlib.Omega.{arith}
 use Rattle.text.specs.Text.{decimal}
 use Rattle.text.proofs.Decimals.{decimal-length}
-use Rattle.report.proofs.Lines.{field-le}
+use Rattle.text.proofs.Parts.{field-le}
 use Rattle.report.proofs.parts.put_byte.Statement.{statement}
 use Rattle.report.proofs.parts.put_byte.Tie as tie
 

@@ -5,7 +5,7 @@ use lib.ListN.{take}
 use Rattle.text.specs.Text.{decimal}
 use Rattle.text.proofs.Answers.{owed-put}
 use Rattle.text.proofs.Decimals.{decimal-length}
-use Rattle.report.proofs.Lines.{field-le}
+use Rattle.text.proofs.Parts.{field-le}
 use Rattle.report.proofs.parts.put_number.Statement.{statement}
 use Rattle.report.proofs.parts.put_number.Tie as tie
 

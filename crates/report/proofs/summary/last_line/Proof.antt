@@ -7,7 +7,7 @@ use lib.ListN.{replicate}
 use lib.Seq.{length-take-le}
 use Rattle.text.specs.Text.{decimal, field}
 use Rattle.report.specs.Lines.{lastLine}
-use Rattle.report.proofs.Lines.{Part, part-append, ended-lt, ended-le, ended-owes}
+use Rattle.text.proofs.Parts.{Part, part-append, ended-lt, ended-le, ended-owes}
 use Rattle.report.proofs.summary.last_line.Statement.{statement}
 use Rattle.report.proofs.summary.last_line.Tie as tie
 

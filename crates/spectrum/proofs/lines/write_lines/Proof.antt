@@ -11,7 +11,7 @@ use mir.Syntax.{w64}
 use mir.Val.{toZ, ofZ}
 use Rattle.codebook_values.proofs.Sizes.{number-back}
 use Rattle.spectrum.specs.Lines.{lines}
-use Rattle.report.specs.Lines.{valueLine}
+use Rattle.value_lines.specs.Lines.{valueLine}
 use Rattle.text.specs.Placing.{Appended}
 use Rattle.text.proofs.Additions.{line-added}
 use Rattle.text.proofs.Puts.{appended-none, appended-append}

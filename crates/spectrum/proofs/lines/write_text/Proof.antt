@@ -3,7 +3,7 @@ use mathlib.Core.Path.{_∙_}
 use native.Mathlib.Omega.{arith}
 use borrow.Author.Needs.{needs}
 use Rattle.spectrum.specs.Lines.{lines}
-use Rattle.report.specs.Lines.{refusalLine}
+use Rattle.value_lines.specs.Lines.{refusalLine}
 use Rattle.text.proofs.Puts.{appended-append}
 use Rattle.text.proofs.Additions.{line-added}
 use Rattle.spectrum.proofs.Output.{text-refused, text-values, counted}

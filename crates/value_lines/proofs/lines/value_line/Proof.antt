@@ -1,4 +1,4 @@
--- `report::values::value_line` meets its contract: sign, digits and the line end after them, which are then put into the buffer whole. Assumes nothing.
+-- `value_lines::lines::value_line` meets its contract: sign, digits and the line end after them, which are then put into the buffer whole. Assumes nothing.
 use mathlib.Core.Path.{sym}
 use native.Mathlib.Omega.{arith}
 use lib.ListN.{replicate}
@@ -9,10 +9,10 @@ use mir.ValLaws.{toZ-ofZ}
 use Rattle.text.specs.Text.{signed}
 use Rattle.text.proofs.Answers.{owed-put}
 use Rattle.text.proofs.Sizes.{signed-length-le}
-use Rattle.report.specs.Lines.{valueLine}
-use Rattle.report.proofs.Lines.{Part, ended-lt, ended-le, ended-owes}
-use Rattle.report.proofs.values.value_line.Statement.{statement}
-use Rattle.report.proofs.values.value_line.Tie as tie
+use Rattle.value_lines.specs.Lines.{valueLine}
+use Rattle.text.proofs.Parts.{Part, ended-lt, ended-le, ended-owes}
+use Rattle.value_lines.proofs.lines.value_line.Statement.{statement}
+use Rattle.value_lines.proofs.lines.value_line.Tie as tie
 
 -- where the call began
 abbrev begun : tie.After-end-of → tie.Start

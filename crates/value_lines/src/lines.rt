@@ -1,5 +1,4 @@
 // The line of a value, and of a refusal. Each is built in a buffer of line ends, so that its own stands after it.
-use crate::parts::put_byte;
 use text::LineAnswer;
 use text::Name;
 use text::end_of;
@@ -7,7 +6,7 @@ ghost use mathlib.Core.Path.{_≡_};
 ghost use Prim.Native.Nat.{_≤_};
 ghost use lib.ListN.{length};
 ghost use Rattle.text.specs.Placing.{placeAnswer, placeWrites};
-ghost use Rattle.report.specs.Lines.{valueLine, refusalLine};
+ghost use Rattle.value_lines.specs.Lines.{valueLine, refusalLine};
 
 const REFUSED: Name = *b"refused=........";
 
@@ -29,6 +28,6 @@ pub fn refusal_line(n: u8, out: &mut [u8], at: usize) -> LineAnswer
     ensures bound { λ _. ⌜ length (refusalLine n) ≤ 22 ⌝ }
 {
     let mut line = [b'\n'; 22];
-    let end = put_byte(REFUSED, 8, n, &mut line, 0);
+    let end = end_of(text::number(REFUSED, 8, n as u64, &mut line, 0), 0);
     text::place(&line[..end + 1], out, at)
 }
