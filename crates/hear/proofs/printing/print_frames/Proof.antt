@@ -20,7 +20,7 @@ abbrev μ-loop : tie.MeasureT-loop
 μ-loop bytes out₀ end progress₀ k₀ k-end out progress k = k-end - k
 
 begin-requires : tie.Need-begin-requires Inv-loop μ-loop
-begin-requires c κs = search needs
+begin-requires c κs = tt
 
 loop-holds : tie.Need-loop-holds Inv-loop μ-loop
 unfolding recordAfter textBefore repeatsBefore
@@ -67,7 +67,7 @@ loop-again c =
     ap (λ n. n + repeatOf (answerAt bytes (L .k))) (r .1 .0 ∙ L .inv .1 .1) in
     let w = pending-more (textBefore bytes (L .k)) _ _ _ (r .1 .1 .0) _ _ _ (f .1 .1 .1 .1 .0) in
     rw add-one (
-      (L .inv .0 .0, omega arith, search needs),
+      (L .inv .0 .0, omega arith, t .take-frame .kept .1 .1 .1 .0 ∙ L .inv .0 .2),
       (f .0, f .1 .0 ∙ n, f .1 .1 .0),
       (rw (f .1 .1 .1 .0) w, omega arith, omega arith),
     )
