@@ -52,14 +52,13 @@ whole c =
 size-kept : (c : tie.After-end-of2) → length (c .before .before .before .last-line .last .1 .1 .1 .0) ≡ length (begun c .args .out .now)
 size-kept c =
     let p = printed (made c) in
-    let f = opened p in
-    c .before .before .before .last-line .kept .1 .1 .1 .0 ∙ p .print-frames .kept .1 .0 ∙ f .first-line .kept .0
+    c .before .before .before .last-line .kept .1 .1 .1 .0 ∙ p .print-frames .kept .1 .0 ∙ opened p .first-line .kept .0
 
 first-line-requires : tie.Need-first-line-requires
-first-line-requires c κs = search needs
+first-line-requires c κs = tt
 
 end-of-requires : tie.Need-end-of-requires
-end-of-requires c κs = search needs
+end-of-requires c κs = tt
 
 print-frames-requires : tie.Need-print-frames-requires
 unfolding textBefore
@@ -79,18 +78,17 @@ make-room-requires c κs =
     ((omega arith, f .1 .1 .0), (full p, f .1 .1 .1, omega (arith, f .1 .0)))
 
 last-line-requires : tie.Need-last-line-requires
-last-line-requires c κs = search needs
+last-line-requires c κs = tt
 
 end-of-requires-2 : tie.Need-end-of-requires-2
-end-of-requires-2 c κs = search needs
+end-of-requires-2 c κs = tt
 
 send-requires : tie.Need-send-requires
 send-requires c κs =
     let e = c .before .before in
     let m = made e in
-    let p = printed m in
     let r = m .make-room .ensures in
-    let f = p .print-frames .ensures in
+    let f = printed m .print-frames .ensures in
     let w = whole e in
     let s = begun e in
     let size = size-kept e ∙ s .pre .1 in
