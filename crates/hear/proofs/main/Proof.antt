@@ -1,22 +1,23 @@
 -- `hear::main` meets its contract: the buffer has room for 9,362 frames, and as many bytes of it count as were read. Assumes nothing.
-use mathlib.Core.Path.{_≡_, sym, _∙_}
+use mathlib.Core.Path.{_≡_, _∙_}
 use Prim.Native.Nat.{ℕ}
+use native.Mathlib.Omega.{arith}
 use lib.ListN.{length, replicate, length-replicate}
 use Rattle.hear.proofs.main.Statement.{statement}
 use Rattle.hear.proofs.main.Tie as tie
 
--- the length of the cleared buffer: by a law, since computing it walks over every byte
-cleared-length : length {A = ℕ} (replicate 65534 0) ≡ 65534
-cleared-length = length-replicate {A = ℕ} 65534 0
-
 slice-aggregate-read-full : tie.Need-slice-aggregate-read-full
-slice-aggregate-read-full c = sym cleared-length
+slice-aggregate-read-full c = omega arith
 
 read-full-requires : tie.Need-read-full-requires
 read-full-requires c κs = tt
 
 slice-aggregate-print-call : tie.Need-slice-aggregate-print-call
-slice-aggregate-print-call c = sym (c .before .before .read-full .kept .1 .0 ∙ cleared-length)
+slice-aggregate-print-call c = omega arith
+
+-- the length of the cleared buffer: by a law, since computing it walks over every byte
+cleared-length : length {A = ℕ} (replicate 65534 0) ≡ 65534
+cleared-length = length-replicate {A = ℕ} 65534 0
 
 print-call-requires : tie.Need-print-call-requires
 print-call-requires c κs =
