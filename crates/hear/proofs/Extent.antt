@@ -1,10 +1,14 @@
--- However long the input is, at most 9,362 frames of it are heard.
--- Assumes nothing.
+-- How much of the input is heard: all of it up to 9,362 frames, and never more frames than that. Assumes nothing.
+use mathlib.Core.Path.{_≡_}
 use mathlib.Core.List.{List}
 use Prim.Native.Nat.{ℕ, _≤_}
 use native.Mathlib.Omega.{arith}
-use lib.ListN.{take, length-take}
-use Rattle.hear.specs.Call.{framesIn}
+use lib.ListN.{length, length-take}
+use lib.Seq.{take-all}
+use Rattle.hear.specs.Call.{framesIn, mostBytes, heard}
 
-pub frames-most : (input : List ℕ) → framesIn (take 65534 input) ≤ 9362
-frames-most input = omega (arith, length-take 65534 input)
+pub heard-all : (input : List ℕ) → length input ≤ 65534 → heard input ≡ input
+heard-all input h = take-all mostBytes input (omega arith)
+
+pub frames-most : (input : List ℕ) → framesIn (heard input) ≤ 9362
+frames-most input = omega (arith, length-take mostBytes input)

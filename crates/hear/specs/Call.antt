@@ -58,9 +58,16 @@ repeatsBefore bytes (suc k) = repeatsBefore bytes k + repeatOf (answerAt bytes k
 unfoldable pub text : List ℕ → List ℕ
 text bytes = textBefore bytes (framesIn bytes) ++ lastLine (framesIn bytes) (repeatsBefore bytes (framesIn bytes)) (leftIn bytes)
 
--- what is printed for all of standard input: bytes past the 65,534th, those of 9,362 frames, are neither read nor counted
+-- what is heard of all of standard input: at most 9,362 frames; bytes past the 65,534 of those are neither read nor counted
+abbrev pub mostBytes : ℕ
+mostBytes = 7 * 9362
+
+abbrev pub heard : List ℕ → List ℕ
+heard input = take mostBytes input
+
+-- what is printed for it
 abbrev pub printed : List ℕ → List ℕ
-printed input = text (take 65534 input)
+printed input = text (heard input)
 
 -- as many bytes as are printed, for every input from which a buffer and the count of its bytes were read
 abbrev pub AllPrinted : List ℕ → ℕ → ℕ → Type 0

@@ -9,7 +9,7 @@ ghost use mathlib.Core.Path.{_≡_};
 ghost use Prim.Native.Nat.{_+_, _≤_};
 ghost use lib.ListN.{length};
 ghost use Rattle.io.specs.Counts.{Counts};
-ghost use Rattle.hear.specs.Call.{framesIn, repeatsBefore, textBefore, text, AllPrinted, Pending};
+ghost use Rattle.hear.specs.Call.{framesIn, repeatsBefore, textBefore, text, mostBytes, AllPrinted, Pending};
 
 // Room for a line more: a buffer that is nearly full is sent.
 fn make_room(before: Progress, bytes: &[u8], k: usize, out: &[u8]) -> Progress
@@ -67,7 +67,7 @@ fn print_text(bytes: &[u8], out: &mut [u8]) -> Sent
 
 // All that is printed for the standard input of which the first `size` bytes of a buffer for 9,362 frames were read.
 pub(crate) fn print_call(input: &[u8], size: usize) -> Sent
-    requires { ⌜ (length (now input) ≡ 65534) × Counts size (now input) ⌝ }
+    requires { ⌜ (length (now input) ≡ mostBytes) × Counts size (now input) ⌝ }
     ensures { λ r. ⌜ AllPrinted (now (input .entry)) size (r .count) ⌝ }
 {
     let mut out = io::large_buffer();

@@ -4,7 +4,8 @@ use mathlib.Core.List.{List}
 use Prim.Native.Nat.{ℕ}
 use lib.ListN.{length, take}
 use borrow.Author.Needs.{needs}
-use Rattle.hear.specs.Call.{text, AllPrinted}
+use Rattle.bits.specs.Lists.{ReadFrom}
+use Rattle.hear.specs.Call.{text, mostBytes, heard, AllPrinted}
 use Rattle.hear.proofs.printing.print_call.Statement.{statement}
 use Rattle.hear.proofs.printing.print_call.Tie as tie
 
@@ -20,9 +21,12 @@ slice-aggregate-print-text-2 c = search needs
 print-text-requires : tie.Need-print-text-requires
 print-text-requires c κs = search needs
 
--- the text of what a buffer of 65,534 bytes was read to is what is printed
-all-printed : (buffer : List ℕ) (size count : ℕ) → length buffer ≡ 65534 → count ≡ length (text (take size buffer)) → AllPrinted buffer size count
-all-printed buffer size count e h input read = h ∙ ap (λ (l : List ℕ). length (text l)) (read ∙ ap (λ (m : ℕ). take m input) e)
+-- what a buffer of that many bytes was read to is what is heard, and its text is what is printed
+read-heard : (buffer input : List ℕ) (size : ℕ) → length buffer ≡ mostBytes → ReadFrom buffer size input → take size buffer ≡ heard input
+read-heard buffer input size e read = read ∙ ap (λ (m : ℕ). take m input) e
+
+all-printed : (buffer : List ℕ) (size count : ℕ) → length buffer ≡ mostBytes → count ≡ length (text (take size buffer)) → AllPrinted buffer size count
+all-printed buffer size count e h input read = h ∙ ap (λ (l : List ℕ). length (text l)) (read-heard buffer input size e read)
 
 returns : tie.Need-returns
 returns c =
