@@ -3,6 +3,7 @@ pub mod Patterns
 pub mod Count
 pub mod Value
 pub mod Digits
+pub mod Bitwise
 pub mod Cut
 pub mod Front
 pub mod Buffers

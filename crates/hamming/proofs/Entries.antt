@@ -1,35 +1,24 @@
--- The table of tables is the rule at every entry, and an entry tells what the rule asks for.
+-- A row of the table is the rule at every entry, and an entry tells what the rule asks for.
 -- Assumes nothing.
-use mathlib.Core.Path.{_≡_, refl}
+use mathlib.Core.Path.{_≡_, refl, ap, _∙_}
 use mathlib.Core.Bool.{Bool}
-use mathlib.Core.List.{List, [], _∷_}
-use Prim.Native.Nat.{ℕ, _-_, _≤_, _<_}
+use mathlib.Core.List.{List}
+use Prim.Native.Nat.{ℕ, _≤_, _<_}
+use native.Mathlib.Nat.{zero-add}
 use native.Mathlib.Omega.{arith}
-use lib.Dec.{T, eqb, eqb→eq, ltb, ltb→lt}
+use lib.Dec.{T, ltb, ltb→lt}
 use lib.ListN.{length, getD}
 use Rattle.bits.specs.Bits.{bits, same}
-use Rattle.bits.proofs.Tests.{every, every-at, and-left}
+use Rattle.bits.proofs.Cut.{cut-at}
+use Rattle.bits.proofs.Tests.{and-left}
 use Rattle.hamming.specs.Word.{checkBits, column, Fix, stand, flip, erase, fixOf}
-use Rattle.hamming.specs.Table.{standMark, eraseMark, entryOf}
-use Rattle.hamming.proofs.Lengths.{lengths-at}
+use Rattle.hamming.specs.Table.{standMark, eraseMark, entryOf, fixRow}
 use Rattle.hamming.proofs.Syndromes.{explains, fix-explains}
 
--- the code's table
-unfoldable pub table : List (List ℕ)
-table =
-    (8 ∷ 5 ∷ 4 ∷ 2 ∷ 3 ∷ 1 ∷ 0 ∷ 8 ∷ 8 ∷ 5 ∷ 4 ∷ 2 ∷ 3 ∷ 1 ∷ 0 ∷ 8 ∷ [])
-    ∷ (8 ∷ 6 ∷ 5 ∷ 2 ∷ 4 ∷ 1 ∷ 0 ∷ 3 ∷ 8 ∷ 6 ∷ 5 ∷ 2 ∷ 4 ∷ 1 ∷ 0 ∷ 3 ∷ [])
-    ∷ (8 ∷ 7 ∷ 6 ∷ 9 ∷ 5 ∷ 9 ∷ 9 ∷ 2 ∷ 4 ∷ 9 ∷ 9 ∷ 1 ∷ 9 ∷ 0 ∷ 3 ∷ 9 ∷ [])
-    ∷ []
-
--- the entry at syndrome z is the rule's
-right : ℕ → ℕ → Bool
-right n z = eqb (getD (getD table (n - 6) []) z 0) (entryOf (fixOf n (bits (checkBits n) z)))
-
--- each entry is what the rule asks for at that syndrome
-pub table-is : (n z : ℕ) → 6 ≤ n → n ≤ 8 → z < 16 → getD (getD table (n - 6) []) z 0 ≡ entryOf (fixOf n (bits (checkBits n) z))
-unfolding right table fixOf
-table-is n z l m h = eqb→eq _ _ (every-at 16 (right n) (lengths-at (λ n. every 16 (right n)) tt n l m) z h)
+-- the entry of a row at a number is what the rule asks for at that syndrome
+pub row-is : (n z : ℕ) → z < 16 → getD (fixRow n) z 0 ≡ entryOf (fixOf n (bits (checkBits n) z))
+unfolding fixRow
+row-is n z h = cut-at 0 (λ z. entryOf (fixOf n (bits (checkBits n) z))) 0 16 z h ∙ ap (λ (z : ℕ). entryOf (fixOf n (bits (checkBits n) z))) (zero-add z)
 
 -- the bit that a rule's request flips is one of the word's
 flip-lt : (n k : ℕ) (z : List Bool) → T (explains n z (flip k)) → k < n

@@ -5,22 +5,25 @@ use mathlib.Core.Bool.{Bool}
 use mathlib.Core.List.{List}
 use Prim.Native.Nat.{ℕ, _/_, _%_, _^_, _≤_, _<_}
 use lib.Bits.{bitXor, xor-lt}
+use lib.ListN.{getD}
 use Rattle.bits.specs.Bits.{value, bits}
 use Rattle.hamming.specs.Word.{checkBits, dataBits, parityOf, syndrome, flipAt, flip, fixOf, mend, decode}
-use Rattle.hamming.specs.Table.{standMark, eraseMark, entryOf}
+use Rattle.hamming.specs.Table.{standMark, eraseMark, entryOf, fixRow}
 use Rattle.hamming.specs.declared.Decoded.the-variants.{Read, Erased}
 use Rattle.hamming.proofs.Words.{expected, expected-lt, received-lt, syndrome-length, syndrome-is, data-value, flipped-data-value}
-use Rattle.hamming.proofs.Entries.{entry-erase, entry-stand, entry-flip}
+use Rattle.hamming.proofs.Entries.{row-is, entry-erase, entry-stand, entry-flip}
 
 module _ (n : ℕ) (l : 6 ≤ n) (m : n ≤ 8) (w : ℕ) where
-  -- the number that the table is asked at is below 16
-  pub index-lt : (weight p : ℕ) → weight ≡ 2 ^ checkBits n → p ≡ value (parityOf n (bits (dataBits n) (w / weight))) → bitXor (w % weight) p < 16
-  index-lt weight p e h = rw (h, e) (xor-lt 4 (w % 2 ^ checkBits n) (expected n l m w) (received-lt n l m w) (expected-lt n l m w))
+  -- received parity plus expected parity, as a number: it has the bits of the syndrome, and is below 16
+  pub syndrome-of : (weight p : ℕ) → weight ≡ 2 ^ checkBits n → p ≡ value (parityOf n (bits (dataBits n) (w / weight)))
+      → (bits (checkBits n) (bitXor (w % weight) p) ≡ syndrome n (bits n w)) × (bitXor (w % weight) p < 16)
+  syndrome-of weight p e h =
+      rw (h, e) (syndrome-is n l m w, xor-lt 4 (w % 2 ^ checkBits n) (expected n l m w) (received-lt n l m w) (expected-lt n l m w))
 
-  -- the entry found there is the one of the word's syndrome
-  pub entry-is : (weight p fix : ℕ) → weight ≡ 2 ^ checkBits n → p ≡ value (parityOf n (bits (dataBits n) (w / weight)))
-      → fix ≡ entryOf (fixOf n (bits (checkBits n) (bitXor (w % weight) p))) → fix ≡ entryOf (fixOf n (syndrome n (bits n w)))
-  entry-is weight p fix e h f = f ∙ ap (λ (z : List Bool). entryOf (fixOf n z)) (rw (h, e) (syndrome-is n l m w))
+  -- the entry of the row there is the one of the word's syndrome
+  pub entry-is : (row : List ℕ) → row ≡ fixRow n → (z : ℕ) → bits (checkBits n) z ≡ syndrome n (bits n w) → z < 16
+      → getD row z 0 ≡ entryOf (fixOf n (syndrome n (bits n w)))
+  entry-is row r z e h = ap (λ (x : List ℕ). getD x z 0) r ∙ row-is n z h ∙ ap (λ (x : List Bool). entryOf (fixOf n x)) e
 
   module _ (h : w < 2 ^ n) (fix : ℕ) (e : fix ≡ entryOf (fixOf n (syndrome n (bits n w)))) where
     -- the mark of an erasure

@@ -1,10 +1,12 @@
--- The parity of a word, as a number made of sums of its data bits.
+-- The parity of a word, as a number, by the code's table.
 -- Assumes nothing.
 use mathlib.Core.Path.{_≡_, ap, _∙_}
 use mathlib.Core.Bool.{Bool}
-use Prim.Native.Nat.{ℕ, _+_, _*_, _-_, _/_, _%_, _^_, _≤_, _<_}
+use mathlib.Core.List.{List, [], _∷_}
+use Prim.Native.Nat.{ℕ, _*_, _-_, _/_, _%_, _^_, _≤_, _<_}
 use native.Mathlib.Nat.{mod-lt}
 use lib.Dec.{eqb, eqb→eq}
+use lib.ListN.{getD}
 use lib.Pow.{pow-pos}
 use Rattle.bits.specs.Bits.{value, bits}
 use Rattle.bits.proofs.Tests.{every, every-at, equal-at}
@@ -12,17 +14,14 @@ use Rattle.bits.proofs.Digits.{bits-mod}
 use Rattle.hamming.specs.Word.{checkBits, dataBits, parity, parityOf}
 use Rattle.hamming.proofs.Lengths.{lengths-at}
 
--- the four parity bits of four data bits, as sums
-abbrev pub sums : ℕ → ℕ
-sums u =
-    (u / 8 + u / 4 % 2 + u % 2) % 2 * 8
-    + (u / 8 + u / 2 % 2 + u % 2) % 2 * 4
-    + (u / 4 % 2 + u / 2 % 2 + u % 2) % 2 * 2
-    + (u / 8 + u / 4 % 2 + u / 2 % 2) % 2
+-- the code's table
+unfoldable pub table : List ℕ
+table = 0 ∷ 14 ∷ 7 ∷ 9 ∷ 11 ∷ 5 ∷ 12 ∷ 2 ∷ 13 ∷ 3 ∷ 10 ∷ 4 ∷ 6 ∷ 8 ∷ 1 ∷ 15 ∷ []
 
--- they are the parity equations
-pub sums-is : (u : ℕ) → u < 16 → sums u ≡ value (parity (bits 4 u))
-sums-is = equal-at 16 sums (λ u. value (parity (bits 4 u))) tt
+-- it has the parity bits of each data
+pub table-is : (u : ℕ) → u < 16 → getD table u 0 ≡ value (parity (bits 4 u))
+unfolding table
+table-is = equal-at 16 (λ u. getD table u 0) (λ u. value (parity (bits 4 u))) tt
 
 -- what is left of the four: the first three in the shorter words, whose data of three bits move up one place
 short : ℕ → ℕ → Bool

@@ -10,15 +10,7 @@ fn all_parity(u: u8) -> u8
     requires { ⌜ u < 16 ⌝ }
     ensures { λ r. ⌜ r ≡ value (parity (bits 4 u)) ⌝ }
 {
-    let u0 = u / 8;
-    let u1 = u / 4 % 2;
-    let u2 = u / 2 % 2;
-    let u3 = u % 2;
-    let p0 = (u0 + u1 + u3) % 2;
-    let p1 = (u0 + u2 + u3) % 2;
-    let p2 = (u1 + u2 + u3) % 2;
-    let p3 = (u0 + u1 + u2) % 2;
-    p0 * 8 + p1 * 4 + p2 * 2 + p3
+    PARITY[u as usize]
 }
 
 // The parity bits of the data in the low bits of a number, p0 most significant. Only word A has p3, and
@@ -32,3 +24,6 @@ pub fn parity_of(length: WordLength, u: u8) -> u8
         WordLength::Eight => all_parity(u % 16),
     }
 }
+
+// The four parity bits of each data.
+const PARITY: [u8; 16] = [0, 14, 7, 9, 11, 5, 12, 2, 13, 3, 10, 4, 6, 8, 1, 15];

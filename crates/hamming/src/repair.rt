@@ -5,16 +5,8 @@ use crate::parity::parity_of;
 ghost use mathlib.Core.Path.{_≡_};
 ghost use Prim.Native.Nat.{_≤_, _<_, _^_};
 ghost use Rattle.bits.specs.Bits.{value, bits};
-ghost use Rattle.hamming.specs.Word.{lengthOf, checkBits, flipAt, fixOf, decode};
-ghost use Rattle.hamming.specs.Table.{entryOf};
-
-// What a syndrome asks of a word of n bits, as the table writes it.
-fn fix_of(n: usize, syndrome: u8) -> u8
-    requires { ⌜ (6 ≤ n) × (n ≤ 8) × (syndrome < 16) ⌝ }
-    ensures { λ r. ⌜ r ≡ entryOf (fixOf n (bits (checkBits n) syndrome)) ⌝ }
-{
-    FIXES[n - 6][syndrome as usize]
-}
+ghost use Rattle.hamming.specs.Word.{lengthOf, checkBits, syndrome, flipAt, decode};
+ghost use Rattle.hamming.specs.Table.{fixRow};
 
 // The weight of the lowest data bit: the parity bits stand below it.
 fn data_weight(n: usize) -> u8
@@ -22,6 +14,16 @@ fn data_weight(n: usize) -> u8
     ensures positive { λ r. ⌜ 0 < r ⌝ }
 {
     if n == 8 { 16 } else { 8 }
+}
+
+// The syndrome of a word of n bits: its parity bits plus the parity of its data.
+fn syndrome_of(length: WordLength, n: usize, word: u8) -> u8
+    requires { ⌜ n ≡ lengthOf length ⌝ }
+    ensures number { λ r. ⌜ bits (checkBits n) r ≡ syndrome n (bits n word) ⌝ }
+    ensures bound { λ r. ⌜ r < 16 ⌝ }
+{
+    let weight = data_weight(n);
+    (word % weight) ^ parity_of(length, word / weight)
 }
 
 // A word of n bits with bit k, counted from the first, flipped.
@@ -32,14 +34,13 @@ fn flipped(n: usize, word: u8, k: usize) -> u8
     word ^ (1 << (n - 1 - k))
 }
 
-// The outcome of a word of n bits: the table is asked at its syndrome.
-fn decode_word(length: WordLength, n: usize, word: u8) -> Decoded
-    requires { ⌜ (n ≡ lengthOf length) × (word < 2 ^ n) ⌝ }
+// The outcome of a word of n bits: the table's row for such words is asked at its syndrome.
+fn decode_word(length: WordLength, n: usize, fixes: [u8; 16], word: u8) -> Decoded
+    requires { ⌜ (n ≡ lengthOf length) × (word < 2 ^ n) × (fixes ≡ fixRow n) ⌝ }
     ensures { λ r. ⌜ r ≡ decode n (bits n word) ⌝ }
 {
+    let fix = fixes[syndrome_of(length, n, word) as usize];
     let weight = data_weight(n);
-    let syndrome = (word % weight) ^ parity_of(length, word / weight);
-    let fix = fix_of(n, syndrome);
     if fix == ERASE {
         return Decoded::Erased;
     }
@@ -54,9 +55,9 @@ pub fn decode(length: WordLength, word: u8) -> Decoded
     ensures { λ r. ⌜ r ≡ decode (lengthOf length) (bits (lengthOf length) word) ⌝ }
 {
     match length {
-        WordLength::Six => decode_word(length, 6, word % 64),
-        WordLength::Seven => decode_word(length, 7, word % 128),
-        WordLength::Eight => decode_word(length, 8, word),
+        WordLength::Six => decode_word(length, 6, FIXES[0], word % 64),
+        WordLength::Seven => decode_word(length, 7, FIXES[1], word % 128),
+        WordLength::Eight => decode_word(length, 8, FIXES[2], word),
     }
 }
 

@@ -4,6 +4,8 @@ pub mod Places
 pub mod Bytes
 pub mod Frames
 pub mod DefaultOrder
+pub mod Moves
+pub mod DefaultMoves
 pub mod Gathering
 pub mod Refusals
 pub mod Answers

@@ -1,9 +1,8 @@
 // The 54 logical bits of a frame in the default order.
 use crate::BitsAnswer;
 ghost use mathlib.Core.Path.{_≡_};
-ghost use Prim.Native.Nat.{_*_, _≤_, _<_};
 ghost use lib.ListN.{length};
-ghost use Rattle.bits.specs.Bits.{bitNum, value, cut, carried};
+ghost use Rattle.bits.specs.Bits.{value, cut, carried};
 ghost use Rattle.order.specs.Order.{defaultOrder, placeOf, bitAt};
 ghost use Rattle.order.specs.Taking.{bitsAnswer};
 
@@ -19,37 +18,25 @@ fn placed_bits(frame: &[u8]) -> u64
     placed
 }
 
-// Logical bit j, from its place.
-fn bit_from(placed: u64, j: usize) -> u64
-    requires { ⌜ j < 54 ⌝ }
-    ensures taken { λ r. ⌜ r ≡ bitNum (carried 56 placed (placeOf defaultOrder j)) ⌝ }
-    ensures bound { λ r. ⌜ r ≤ 1 ⌝ }
-{
-    (placed >> (55 - 7 * j % 54)) % 2
-}
-
-// The six logical bits from 6 × a on.
-fn six_from(placed: u64, a: usize) -> u64
-    requires { ⌜ a < 9 ⌝ }
-    ensures taken { λ r. ⌜ r ≡ value (cut (λ j. carried 56 placed (placeOf defaultOrder j)) (6 * a) 6) ⌝ }
-    ensures bound { λ r. ⌜ r < 64 ⌝ }
-{
-    let mut six: u64 = 0;
-    for b in 0..6 {
-        six = six * 2 + bit_from(placed, 6 * a + b);
-    }
-    six
-}
-
-// The 54 logical bits, from their places. They are taken six at a time: so short a loop is unrolled, and then each place is a constant.
+// The 54 logical bits, from their places. Those that stand as far from where they go move together, by a shift and a mask.
 fn gather(placed: u64) -> u64
     ensures { λ r. ⌜ r ≡ value (cut (λ j. carried 56 placed (placeOf defaultOrder j)) 0 54) ⌝ }
 {
-    let mut bits: u64 = 0;
-    for a in 0..9 {
-        bits = bits * 64 + six_from(placed, a);
-    }
-    bits
+    ((placed << 40) & 0x400000000000)
+        | ((placed << 34) & 0x804000000000)
+        | ((placed << 28) & 0x1008040000000)
+        | ((placed << 22) & 0x2010080000000)
+        | ((placed << 16) & 0x4020100800000)
+        | ((placed << 10) & 0x8040201008000)
+        | ((placed << 4) & 0x10080402010080)
+        | ((placed >> 2) & 0x20100804020100)
+        | ((placed >> 8) & 0x201008040201)
+        | ((placed >> 14) & 0x2010080402)
+        | ((placed >> 20) & 0x20100804)
+        | ((placed >> 26) & 0x201008)
+        | ((placed >> 32) & 0x402010)
+        | ((placed >> 38) & 0x4020)
+        | ((placed >> 44) & 0x40)
 }
 
 // The logical bits of a frame. Refused: 2, not seven bytes; 3, one of the last two bits set.
