@@ -27,5 +27,5 @@ pub(crate) fn put_byte(name: Name, width: usize, n: u8, line: &mut [u8], at: usi
     ensures put { λ r. ⌜ PutIfRoom (now (line .entry)) at (take width name ++ decimal n) (now (line .exit)) r ⌝ }
     ensures bound { λ _. ⌜ length (take width name ++ decimal n) ≤ width + 3 ⌝ }
 {
-    put_number(name, width, n as u64, line, at)
+    end_of(text::byte(name, width, n, line, at), at)
 }

@@ -5,5 +5,6 @@ pub mod Additions
 pub mod Decimals
 pub mod Pairs
 pub mod Widths
+pub mod Rooms
 pub mod Sizes
 pub mod Parts

@@ -7,15 +7,16 @@ ghost use Rattle.bits.specs.Ascii.{digitByte};
 ghost use Rattle.text.specs.Text.{decimal};
 ghost use Rattle.text.specs.Placing.{written};
 
-// The last two digits of a number, with a zero in front of a single one.
+// The last two digits of a number, with a zero in front of a single one. As one number, the first lower, they take one store.
 fn write_pair(n: u64, out: &mut [u8], at: usize) -> usize
     requires { ⌜ at + 2 ≤ length (now out) ⌝ }
     ensures end { λ r. ⌜ r ≡ at + 2 ⌝ }
     ensures text { λ _. ⌜ now (out .exit) ≡ written (digitByte (n % 100 / 10) ∷ digitByte (n % 100 % 10) ∷ []) at (now (out .entry)) ⌝ }
 {
-    let pair = (n % 100) as u8;
-    out[at] = 48 + pair / 10;
-    out[at + 1] = 48 + pair % 10;
+    let pair = n % 100;
+    let digits = 48 + pair / 10 + 256 * (48 + pair % 10);
+    out[at] = (digits % 256) as u8;
+    out[at + 1] = (digits / 256) as u8;
     at + 2
 }
 
@@ -32,14 +33,30 @@ fn write_small(n: u64, out: &mut [u8], at: usize) -> usize
     write_pair(n, out, at)
 }
 
-// A number of three or four digits.
+// A number of three or four digits. Four are two pairs, side by side.
 fn write_hundreds(n: u64, out: &mut [u8], at: usize) -> usize
     requires { ⌜ (100 ≤ n) × (n < 10000) × (at + length (decimal n) ≤ length (now out)) ⌝ }
     ensures end { λ r. ⌜ r ≡ at + length (decimal n) ⌝ }
     ensures text { λ _. ⌜ now (out .exit) ≡ written (decimal n) at (now (out .entry)) ⌝ }
 {
-    let end = write_small(n / 100, out, at);
+    if n < 1000 {
+        let end = write_small(n / 100, out, at);
+        return write_pair(n, out, end);
+    }
+    let end = write_pair(n / 100, out, at);
     write_pair(n, out, end)
+}
+
+// A number of one byte.
+pub(crate) fn write_byte(n: u8, out: &mut [u8], at: usize) -> usize
+    requires { ⌜ at + length (decimal n) ≤ length (now out) ⌝ }
+    ensures end { λ r. ⌜ r ≡ at + length (decimal n) ⌝ }
+    ensures text { λ _. ⌜ now (out .exit) ≡ written (decimal n) at (now (out .entry)) ⌝ }
+{
+    if n < 100 {
+        return write_small(n as u64, out, at);
+    }
+    write_hundreds(n as u64, out, at)
 }
 
 // A number of three digits or more.

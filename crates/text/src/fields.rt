@@ -4,6 +4,7 @@ use crate::Name;
 use crate::bytes::append;
 use crate::bytes::is_too_short;
 use crate::bytes::place;
+use crate::decimal::write_byte;
 use crate::decimal::write_decimal;
 ghost use mathlib.Core.Path.{_≡_};
 ghost use Prim.Native.Nat.{_+_, _≤_};
@@ -54,7 +55,20 @@ pub fn number(name: Name, width: usize, n: u64, out: &mut [u8], at: usize) -> Li
     LineAnswer::Written(write_decimal(n, out, digits))
 }
 
-// The same by way of a buffer of its own.
+// The same of a number of one byte, which has at most three digits.
+pub fn byte(name: Name, width: usize, n: u8, out: &mut [u8], at: usize) -> LineAnswer
+    ensures answer { λ r. ⌜ r ≡ placeAnswer (take width name ++ decimal n) at (length (now (out .entry))) ⌝ }
+    ensures written { λ _. ⌜ now (out .exit) ≡ placeWrites (take width name ++ decimal n) at (now (out .entry)) ⌝ }
+{
+    let end = within_name(width);
+    if is_too_short(out.len(), at, end + 3) {
+        return placed_number(name, end, n as u64, out, at);
+    }
+    let digits = write_name(name, end, out, at);
+    LineAnswer::Written(write_byte(n, out, digits))
+}
+
+// A name, and a number after it, by way of a buffer of its own.
 fn placed_number(name: Name, width: usize, n: u64, out: &mut [u8], at: usize) -> LineAnswer
     requires { ⌜ width ≤ 16 ⌝ }
     ensures answer { λ r. ⌜ r ≡ placeAnswer (take width name ++ decimal n) at (length (now (out .entry))) ⌝ }

@@ -12,6 +12,7 @@ mod signs;
 
 pub use bytes::end_of;
 pub use bytes::place;
+pub use fields::byte;
 pub use fields::name;
 pub use fields::number;
 pub use signs::signed;

@@ -1,17 +1,15 @@
 -- `text::fields::number` meets its contract: where there is room for twenty digits there is room for the number. Assumes nothing.
 use mathlib.Core.Path.{_≡_, _∙_}
-use mathlib.Core.List.{_++_}
 use Prim.Native.Nat.{_+_, _≤_}
 use native.Mathlib.Omega.{arith}
-use lib.ListN.{length, take}
-use lib.Seq.{length-take-le}
+use lib.ListN.{length}
 use mir.Syntax.{w8}
 use borrow.Kind.Array.{eInt, good-length}
 use Rattle.text.specs.Text.{decimal}
-use Rattle.text.proofs.Answers.{room-owes, test-room}
+use Rattle.text.proofs.Answers.{test-room}
 use Rattle.text.proofs.Decimals.{decimal-length}
-use Rattle.text.proofs.Puts.{put-append}
-use Rattle.text.proofs.Widths.{within-le, field-is, field-length-within}
+use Rattle.text.proofs.Rooms.{end-le, text-room, field-owes}
+use Rattle.text.proofs.Widths.{field-is}
 use Rattle.text.proofs.fields.number.Statement.{statement}
 use Rattle.text.proofs.fields.number.Tie as tie
 
@@ -20,16 +18,11 @@ size : (c : tie.Start) → length (c .args .name) ≡ 16
 size c = good-length (eInt w8) 16 (c .args .name) _ (c .good .0)
 
 fits : (c : tie.After-within-name) → c .within-name .result ≤ 16
-fits c = omega (arith, c .within-name .ensures, within-le (c .before .before .args .width))
-
--- the text by the width that was asked for
-text-is : (c : tie.After-within-name) → let a = c .before .before .args in
-    take (c .within-name .result) (a .name) ++ decimal (a .n) ≡ take (a .width) (a .name) ++ decimal (a .n)
-text-is c =
+fits c =
     let s = c .before .before in
-    field-is (s .args .name) (size s) (s .args .width) (c .within-name .result) (c .within-name .ensures) (decimal (s .args .n))
+    end-le (s .args .name) (size s) (s .args .width) (c .within-name .result) (c .within-name .ensures)
 
--- the longest number has twenty digits
+-- the longest such number
 digits : (c : tie.Start) → length (decimal (c .args .n)) ≤ 20
 digits c = decimal-length 19 (c .args .n) (omega arith)
 
@@ -49,7 +42,11 @@ same-length : tie.Need-same-length
 same-length c = c .before .before .placed-number .kept .1 .1 .1 .0
 
 returns : tie.Need-returns
-returns c = rw (text-is (c .before .before .before .before .before .before)) at (c .before .before .placed-number .ensures)
+returns c =
+    let w = c .before .before .before .before .before .before in
+    let s = w .before .before in
+    rw (field-is (s .args .name) (size s) (s .args .width) (w .within-name .result) (w .within-name .ensures) (decimal (s .args .n))) at
+    (c .before .before .placed-number .ensures)
 
 -- where the test found room
 room : (c : tie.Else1) → let w = c .before .before in let a = w .before .before .args in a .at + (w .within-name .result + 20) ≤ length (a .out .now)
@@ -61,9 +58,12 @@ write-name-requires c κs = (fits (c .before .before .before), omega (arith, roo
 write-decimal-requires : tie.Need-write-decimal-requires
 write-decimal-requires c κs =
     let n = c .before .before .before in
-    let w = n .before .before .before .before in
+    let e = n .before .before in
+    let w = e .before .before in
     let s = w .before .before in
-    omega (arith, length-take-le (w .within-name .result) (s .args .name) (omega (arith, fits w, size s)), n .write-name .ensures .0, n .write-name .kept .1 .1 .0, digits s, room (n .before .before))
+    let a = s .args in
+    text-room (a .name) (size s) (a .width) (w .within-name .result) (w .within-name .ensures) (decimal (a .n)) 20 (digits s) (a .out .now) (a .at)
+    (room e) _ _ (n .write-name .kept .1 .1 .0) (n .write-name .ensures .0)
 
 same-length-2 : tie.Need-same-length-2
 same-length-2 c =
@@ -78,10 +78,8 @@ returns-2 c =
     let w = e .before .before in
     let s = w .before .before in
     let a = s .args in
-    let p = put-append (a .out .now) _ _ (a .at) _ _ (take (w .within-name .result) (a .name)) (decimal (a .n)) (omega (arith, room e)) (n .write-name .ensures) (d .write-decimal .ensures) in
-    let l = field-length-within (a .name) (size s) (a .width) (w .within-name .result) (w .within-name .ensures) (decimal (a .n)) in
-    room-owes (take (a .width) (a .name) ++ decimal (a .n)) (a .at) (a .out .now) _ _
-    (omega (arith, digits s, room e)) (rw (text-is w) at p)
+    field-owes (a .name) (size s) (a .width) (w .within-name .result) (w .within-name .ensures) (decimal (a .n)) 20 (digits s) (a .out .now) (a .at)
+    (room e) _ _ _ _ (n .write-name .ensures) (d .write-decimal .ensures)
 
 pub number-spec : {M : Type 1} → statement M
 number-spec =
