@@ -1,5 +1,5 @@
-/* frames COUNT SEED: packed frames of random sets as a bad channel delivers them, to standard
-   output. The same numbers give the same bytes. */
+/* frames COUNT SEED [sets]: packed frames of random sets as a bad channel delivers them, or the sets, eleven bytes
+   each, to standard output. The same numbers give the same bytes. */
 #include <stdio.h>
 #include <stdlib.h>
 
@@ -55,19 +55,39 @@ static void send_through(uint8_t *frame, bool fade)
         frame[FRAME_BYTES - 1] |= (uint8_t)(1 + draw(3));
 }
 
+/* The eleven bytes of a set; what an unvoiced one lacks is 0. */
+static void write_set(const struct parameter_set *set)
+{
+    bool voiced = set->voiced;
+    const uint8_t bytes[SET_BYTES] = {voiced, voiced ? set->pitch : 0, set->lsf[0], set->lsf[1],
+                                      set->lsf[2], set->lsf[3], set->g2, set->g1,
+                                      voiced ? set->bandpass : 0, voiced ? set->fourier : 0,
+                                      voiced ? set->aperiodic : 0};
+    fwrite(bytes, 1, sizeof bytes, stdout);
+}
+
+/* The frame of a set after the channel; every other one has its sync bit set. */
+static void write_frame(const struct parameter_set *set, bool sync, bool fade)
+{
+    uint8_t frame[FRAME_BYTES];
+    pack(set, sync, frame);
+    send_through(frame, fade);
+    fwrite(frame, 1, sizeof frame, stdout);
+}
+
 int main(int argc, char **argv)
 {
-    if (argc != 3)
+    if (argc < 3)
         return 2;
     long count = atol(argv[1]);
     state = 0x9E3779B97F4A7C15 + (uint64_t)atol(argv[2]);
     for (long i = 0; i < count; i++) {
         bool fade = i % FADE_EVERY >= FADE_EVERY - FADE_LENGTH;
         struct parameter_set set = draw_set(!fade && draw(2));
-        uint8_t frame[FRAME_BYTES];
-        pack(&set, i % 2, frame);
-        send_through(frame, fade);
-        fwrite(frame, 1, sizeof frame, stdout);
+        if (argc > 3)
+            write_set(&set);
+        else
+            write_frame(&set, i % 2, fade);
     }
     return 0;
 }

@@ -1,9 +1,8 @@
 /* The program hear in C: frames from standard input, a line of text for each to standard output. Plain
    unless TUNED is set. */
-#include <stdlib.h>
 #include <string.h>
-#include <unistd.h>
 
+#include "channel.h"
 #include "receive.h"
 
 enum { MOST_FRAMES = 9362, MOST_INPUT = MOST_FRAMES * FRAME_BYTES };
@@ -13,31 +12,6 @@ enum { MOST_LINE = 128 };
 
 /* Lines on their way to standard output. */
 static char text[65536];
-
-/* Reads until `size` bytes are there, the input ends or a read fails; the number of bytes. */
-static size_t read_input(uint8_t *input, size_t size)
-{
-    size_t length = 0;
-    while (length < size) {
-        ssize_t got = read(STDIN_FILENO, input + length, size - length);
-        if (got <= 0)
-            break;
-        length += (size_t)got;
-    }
-    return length;
-}
-
-/* Writes the text up to `end`; a write that fails ends the program. */
-static void write_text(const char *end)
-{
-    const char *next = text;
-    while (next < end) {
-        ssize_t put = write(STDOUT_FILENO, next, (size_t)(end - next));
-        if (put <= 0)
-            exit(EXIT_FAILURE);
-        next += put;
-    }
-}
 
 /* Each `put` function puts something at `out` and gives the end of it. */
 
@@ -126,11 +100,11 @@ static void hear(const uint8_t *input, size_t length)
         out = put_frame(out, &record, input + i * FRAME_BYTES, &repeats);
         out = put_word(out, "\n");
         if (text + sizeof text - out < MOST_LINE) {
-            write_text(out);
+            write_output(text, out);
             out = text;
         }
     }
-    write_text(put_totals(out, frames, repeats, length % FRAME_BYTES));
+    write_output(text, put_totals(out, frames, repeats, length % FRAME_BYTES));
 }
 
 int main(void)

@@ -6,7 +6,7 @@
 #include <stddef.h>
 #include <stdint.h>
 
-enum { FRAME_BYTES = 7, FRAME_BITS = 54 };
+enum { FRAME_BYTES = 7, FRAME_BITS = 54, SET_BYTES = 11 };
 
 /* A parameter set; the fields from `pitch` on count only where it is voiced. */
 struct parameter_set {
@@ -19,6 +19,16 @@ struct parameter_set {
     uint8_t fourier;
     uint8_t aperiodic;
 };
+
+/* Whether every field is in its range. Bandpass bits 0001 are, since a receiver may hear them. */
+static inline bool set_in_range(const struct parameter_set *set)
+{
+    if (set->lsf[0] > 127 || set->lsf[1] > 63 || set->lsf[2] > 63 || set->lsf[3] > 63)
+        return false;
+    if (set->g2 > 31 || set->g1 > 7)
+        return false;
+    return !set->voiced || (set->pitch <= 98 && set->bandpass <= 15 && set->aperiodic <= 1);
+}
 
 /* Where each field starts among the logical bits. */
 enum {

@@ -1,10 +1,12 @@
-/* Packing a parameter set into a frame. */
+/* Packing a parameter set into a frame. Placing its bits comes from plain.h, or where TUNED is set from tuned.h. */
 #ifndef PACK_H
 #define PACK_H
 
-#include <string.h>
-
-#include "melp.h"
+#ifdef TUNED
+#include "tuned.h"
+#else
+#include "plain.h"
+#endif
 
 /* Pitch code of each index: the codes with at least three ones, rising. */
 static const uint8_t CODE[99] = {
@@ -50,20 +52,10 @@ static inline uint64_t set_bits(const struct parameter_set *set, bool sync)
     return bits << 1 | sync;
 }
 
-/* Flips the bit at a place. */
-static inline void flip(uint8_t *frame, unsigned place)
-{
-    frame[place / 8] ^= (uint8_t)(0x80 >> place % 8);
-}
-
 /* The frame of a set that a sender takes. */
 static inline void pack(const struct parameter_set *set, bool sync, uint8_t *frame)
 {
-    uint64_t bits = set_bits(set, sync);
-    memset(frame, 0, FRAME_BYTES);
-    for (int j = 0; j < FRAME_BITS; j++)
-        if (bits >> (FRAME_BITS - 1 - j) & 1)
-            flip(frame, PLACE[j]);
+    place_bits(set_bits(set, sync), frame);
 }
 
 #endif

@@ -1,6 +1,9 @@
-/* What plain and tuned C do differently, the plain way: unpacking, pitch code, repair, kinds, two digits. */
+/* What plain and tuned C do differently, the plain way: taking and placing bits, pitch code, repair, kinds, two
+   digits. */
 #ifndef PLAIN_H
 #define PLAIN_H
+
+#include <string.h>
 
 #include "melp.h"
 
@@ -13,6 +16,21 @@ static inline uint64_t logical_bits(const uint8_t *frame)
         bits = bits << 1 | (frame[place / 8] >> (7 - place % 8) & 1);
     }
     return bits;
+}
+
+/* Flips the bit at a place. */
+static inline void flip(uint8_t *frame, unsigned place)
+{
+    frame[place / 8] ^= (uint8_t)(0x80 >> place % 8);
+}
+
+/* The frame of logical bits, bit 0 the most significant of 54, each to its place. */
+static inline void place_bits(uint64_t bits, uint8_t *frame)
+{
+    memset(frame, 0, FRAME_BYTES);
+    for (int j = 0; j < FRAME_BITS; j++)
+        if (bits >> (FRAME_BITS - 1 - j) & 1)
+            flip(frame, PLACE[j]);
 }
 
 /* Of each pitch code how many smaller ones have at least three ones: its index where it is voiced. */

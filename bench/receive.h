@@ -116,16 +116,6 @@ static inline void repeat(const struct record *record, struct result *result)
     result->first_level = result->second_level = level_of(record->g2);
 }
 
-/* Whether every field is in its range. Bandpass bits 0001 are, since a receiver may hear them. */
-static inline bool set_in_range(const struct parameter_set *set)
-{
-    if (set->lsf[0] > 127 || set->lsf[1] > 63 || set->lsf[2] > 63 || set->lsf[3] > 63)
-        return false;
-    if (set->g2 > 31 || set->g1 > 7)
-        return false;
-    return !set->voiced || (set->pitch <= 98 && set->bandpass <= 15 && set->aperiodic <= 1);
-}
-
 /* The first refusal that applies. */
 static inline enum refusal check(const struct record *record, const uint8_t *frame, size_t length)
 {

@@ -1,4 +1,5 @@
-/* What plain and tuned C do differently, the tuned way; plain.h says what each function is for. */
+/* What plain and tuned C do differently, the tuned way; plain.h says what each function is for. Where MOVES is set,
+   bits are taken many at a time, as they are placed. */
 #ifndef TUNED_H
 #define TUNED_H
 
@@ -6,16 +7,72 @@
 
 #include "melp.h"
 
-/* The logical bits of a frame, bit 0 the most significant of 54. The frame is made one number, place 0
-   its most significant bit, so that a shift by a place brings the bit there to the front. */
+/* A frame as one number, place 0 its bit 55. */
+static inline uint64_t placed_bits(const uint8_t *frame)
+{
+    uint64_t placed = 0;
+    for (int i = 0; i < FRAME_BYTES; i++)
+        placed |= (uint64_t)frame[i] << (48 - 8 * i);
+    return placed;
+}
+
+/* The places of logical bits. Bits that go as far move together: fifteen moves. */
+static inline uint64_t to_places(uint64_t bits)
+{
+    return ((bits & 0x400000000000) >> 40) |
+           ((bits & 0x804000000000) >> 34) |
+           ((bits & 0x1008040000000) >> 28) |
+           ((bits & 0x2010080000000) >> 22) |
+           ((bits & 0x4020100800000) >> 16) |
+           ((bits & 0x8040201008000) >> 10) |
+           ((bits & 0x10080402010080) >> 4) |
+           ((bits & 0x20100804020100) << 2) |
+           ((bits & 0x201008040201) << 8) |
+           ((bits & 0x2010080402) << 14) |
+           ((bits & 0x20100804) << 20) |
+           ((bits & 0x201008) << 26) |
+           ((bits & 0x402010) << 32) |
+           ((bits & 0x4020) << 38) |
+           ((bits & 0x40) << 44);
+}
+
+#ifdef MOVES
+/* The logical bits of a frame by the same moves, the other way. */
 static inline uint64_t logical_bits(const uint8_t *frame)
 {
-    uint64_t placed = 0, bits = 0;
-    for (int i = 0; i < FRAME_BYTES; i++)
-        placed |= (uint64_t)frame[i] << (56 - 8 * i);
+    uint64_t placed = placed_bits(frame);
+    return (placed << 40 & 0x400000000000) |
+           (placed << 34 & 0x804000000000) |
+           (placed << 28 & 0x1008040000000) |
+           (placed << 22 & 0x2010080000000) |
+           (placed << 16 & 0x4020100800000) |
+           (placed << 10 & 0x8040201008000) |
+           (placed << 4 & 0x10080402010080) |
+           (placed >> 2 & 0x20100804020100) |
+           (placed >> 8 & 0x201008040201) |
+           (placed >> 14 & 0x2010080402) |
+           (placed >> 20 & 0x20100804) |
+           (placed >> 26 & 0x201008) |
+           (placed >> 32 & 0x402010) |
+           (placed >> 38 & 0x4020) |
+           (placed >> 44 & 0x40);
+}
+#else
+/* The logical bits of a frame, bit 0 the most significant of 54: a shift by its place brings each to the front. */
+static inline uint64_t logical_bits(const uint8_t *frame)
+{
+    uint64_t placed = placed_bits(frame) << 8, bits = 0;
     for (int j = 0; j < FRAME_BITS; j++)
         bits = bits << 1 | placed << PLACE[j] >> 63;
     return bits;
+}
+#endif
+
+static inline void place_bits(uint64_t bits, uint8_t *frame)
+{
+    uint64_t placed = to_places(bits);
+    for (int i = 0; i < FRAME_BYTES; i++)
+        frame[i] = (uint8_t)(placed >> (48 - 8 * i));
 }
 
 /* Marks in the tables below: an unvoiced and an erased pitch code, a word that erases its frame. */

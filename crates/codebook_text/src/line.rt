@@ -4,13 +4,16 @@ ghost use mathlib.Core.Bool.{true};
 ghost use Prim.Native.Nat.{_<_};
 ghost use Rattle.codebook_text.specs.Text.{isNegative, unsigned, isDigit, allDigits, isDigits, digitsValue, isNumber, numberOf};
 
-// Whether a line, without its end, is good.
+// Whether a line, without its end, is good. Its value is asked for only after a minus.
 pub(crate) fn is_number(line: &[u8]) -> bool
     ensures { λ r. ⌜ r ≡ isNumber (now (line .entry)) ⌝ }
 {
     let digits = unsigned_part(line);
     if is_digits(digits) {
-        return !(is_negative(line) & (digits_value(digits) == 0));
+        if is_negative(line) {
+            return digits_value(digits) != 0;
+        }
+        return true;
     }
     false
 }

@@ -7,7 +7,8 @@ use lib.ListN.{length, take, drop, length-append, length-drop}
 use lib.Seq.{drop-length, drop-append-le, take-at}
 use Rattle.report.specs.Lines.{frameLine, lastLine}
 use Rattle.text.specs.Placing.{Appended}
-use Rattle.hear.specs.Call.{framesIn, leftIn, answerAt, textBefore, repeatsBefore, text, Pending}
+use Rattle.receiver.specs.Frames.{framesIn, answerAt}
+use Rattle.hear.specs.Call.{leftIn, textBefore, repeatsBefore, text, Pending}
 
 module _ (soFar : List ℕ) (sent end : ℕ) (out : List ℕ) (p : Pending soFar sent end out) where
   -- a line more waits

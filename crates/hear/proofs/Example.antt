@@ -10,7 +10,8 @@ use Rattle.receiver.specs.Steps.{accepted, repeated}
 use Rattle.receiver.specs.Receiving.{receive}
 use Rattle.text.specs.Text.{digits, decimal}
 use Rattle.report.specs.Lines.{lsfText, setText, resultText, frameLine, lastLine}
-use Rattle.hear.specs.Call.{recordAfter, answerAt, textBefore, repeatsBefore, text}
+use Rattle.receiver.specs.Frames.{recordAfter, answerAt}
+use Rattle.hear.specs.Call.{textBefore, repeatsBefore, text}
 use Rattle.hear.specs.Example.{Example}
 
 pub example : Example

@@ -5,7 +5,8 @@ use Prim.Native.Nat.{ℕ, _≤_}
 use native.Mathlib.Omega.{arith}
 use lib.ListN.{length, length-take}
 use lib.Seq.{take-all}
-use Rattle.hear.specs.Call.{framesIn, mostBytes, heard}
+use Rattle.receiver.specs.Frames.{framesIn}
+use Rattle.hear.specs.Call.{mostBytes, heard}
 
 pub heard-all : (input : List ℕ) → length input ≤ 65534 → heard input ≡ input
 heard-all input h = take-all mostBytes input (omega arith)

@@ -1,4 +1,3 @@
-pub mod Receiving
 pub mod Buffer
 pub mod Example
 pub mod Extent

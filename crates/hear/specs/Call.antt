@@ -4,35 +4,16 @@ use mathlib.Core.Path.{_≡_}
 use mathlib.Core.List.{List, _++_}
 use lib.ListN.{length, take, drop}
 use Rattle.bits.specs.Lists.{ReadFrom}
-use Rattle.order.specs.Order.{defaultOrder}
 use Rattle.receiver.specs.declared.Kind.{Kind}
 use Rattle.receiver.specs.declared.Kind.the-variants.{Unvoiced, Voiced, Repeat}
 use Rattle.receiver.specs.declared.ReceiveAnswer.{ReceiveAnswer}
 use Rattle.receiver.specs.declared.ReceiveAnswer.the-variants.{Result, Refused}
-use Rattle.records.specs.declared.Record.{Record}
-use Rattle.records.specs.Records.{fresh}
-use Rattle.receiver.specs.Receiving.{receive}
+use Rattle.receiver.specs.Frames.{framesIn, answerAt}
 use Rattle.report.specs.Lines.{firstLine, frameLine, lastLine}
 
--- whole frames of seven bytes, and the bytes after the last of them
-abbrev pub framesIn : List ℕ → ℕ
-framesIn bytes = length bytes / 7
-
+-- the bytes after the last whole frame
 abbrev pub leftIn : List ℕ → ℕ
 leftIn bytes = length bytes % 7
-
--- frame k, counted from 0
-abbrev pub frameAt : List ℕ → ℕ → List ℕ
-frameAt bytes k = take 7 (drop (7 * k) bytes)
-
--- the record of a receiver, fresh before the first frame, after k frames
-unfoldable pub recordAfter : List ℕ → ℕ → Record
-recordAfter bytes zero = fresh
-recordAfter bytes (suc k) = receive defaultOrder (recordAfter bytes k) (frameAt bytes k) .next
-
--- what it answers frame k
-unfoldable pub answerAt : List ℕ → ℕ → ReceiveAnswer
-answerAt bytes k = receive defaultOrder (recordAfter bytes k) (frameAt bytes k) .answer
 
 -- 1 for a frame of kind R
 abbrev pub repeatKind : Kind → ℕ

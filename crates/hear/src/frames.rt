@@ -11,7 +11,8 @@ ghost use lib.ListN.{length};
 ghost use Rattle.records.specs.Records.{fresh};
 ghost use Rattle.report.specs.Lines.{frameLine};
 ghost use Rattle.text.specs.Placing.{Appended};
-ghost use Rattle.hear.specs.Call.{repeatOf, recordAfter, answerAt};
+ghost use Rattle.receiver.specs.Frames.{recordAfter, answerAt};
+ghost use Rattle.hear.specs.Call.{repeatOf};
 
 // How far a call is received: the receiver's record, how many frames were repeats, how many bytes of the text are
 // sent, and where the others end in the buffer.

@@ -9,7 +9,8 @@ ghost use mathlib.Core.Path.{_≡_};
 ghost use Prim.Native.Nat.{_+_, _≤_};
 ghost use lib.ListN.{length};
 ghost use Rattle.io.specs.Counts.{Counts};
-ghost use Rattle.hear.specs.Call.{framesIn, repeatsBefore, textBefore, text, mostBytes, AllPrinted, Pending};
+ghost use Rattle.receiver.specs.Frames.{framesIn};
+ghost use Rattle.hear.specs.Call.{repeatsBefore, textBefore, text, mostBytes, AllPrinted, Pending};
 
 // Room for a line more: a buffer that is nearly full is sent.
 fn make_room(before: Progress, bytes: &[u8], k: usize, out: &[u8]) -> Progress

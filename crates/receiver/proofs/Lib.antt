@@ -4,3 +4,4 @@ pub mod Sync
 pub mod Validity
 pub mod Answers
 pub mod Clauses
+pub mod Frames

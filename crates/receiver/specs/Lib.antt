@@ -1,3 +1,4 @@
 pub mod Steps
 pub mod Receiving
+pub mod Frames
 pub mod Sync

@@ -3,9 +3,10 @@ use mathlib.Core.Path.{_≡_, refl, ap, _∙_}
 use Prim.Native.Nat.{_+_}
 use native.Mathlib.Omega.{arith}
 use Rattle.report.specs.Lines.{frameLine}
-use Rattle.hear.specs.Call.{repeatOf, answerAt}
+use Rattle.receiver.specs.Frames.{answerAt}
+use Rattle.hear.specs.Call.{repeatOf}
 use Rattle.text.proofs.Additions.{line-added}
-use Rattle.hear.proofs.Receiving.{answer-is, next-is}
+use Rattle.receiver.proofs.Frames.{answer-is, next-is}
 use borrow.Author.Needs.{needs}
 use Rattle.hear.proofs.frames.take_frame.Statement.{statement}
 use Rattle.hear.proofs.frames.take_frame.Tie as tie

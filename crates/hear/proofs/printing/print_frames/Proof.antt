@@ -4,7 +4,8 @@ use Prim.Native.Nat.{suc, _+_, _-_, _*_, _/_, _≤_}
 use native.Mathlib.Numerals.{add-one}
 use native.Mathlib.Omega.{arith}
 use lib.ListN.{length}
-use Rattle.hear.specs.Call.{answerAt, repeatOf, recordAfter, textBefore, repeatsBefore, Pending}
+use Rattle.receiver.specs.Frames.{answerAt, recordAfter}
+use Rattle.hear.specs.Call.{repeatOf, textBefore, repeatsBefore, Pending}
 use Rattle.hear.proofs.Buffer.{pending-more}
 use borrow.Author.Needs.{needs}
 use Rattle.hear.proofs.printing.print_frames.Statement.{statement}

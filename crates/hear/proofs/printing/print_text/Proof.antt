@@ -5,7 +5,8 @@ use Prim.Native.Nat.{ℕ, _+_, _≤_}
 use native.Mathlib.Omega.{arith}
 use lib.ListN.{length, take, drop}
 use Rattle.report.specs.Lines.{firstLine, lastLine}
-use Rattle.hear.specs.Call.{framesIn, leftIn, textBefore, repeatsBefore, text, Pending}
+use Rattle.receiver.specs.Frames.{framesIn}
+use Rattle.hear.specs.Call.{leftIn, textBefore, repeatsBefore, text, Pending}
 use Rattle.text.proofs.Additions.{line-added}
 use Rattle.hear.proofs.Buffer.{pending-more, pending-next}
 use borrow.Author.Needs.{needs}

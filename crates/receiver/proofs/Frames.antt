@@ -1,14 +1,14 @@
--- What the receiver answers frame k, and the record it leaves. Assumes nothing.
+-- What the receiver answers frame k of many, and the record it leaves. Assumes nothing.
 use mathlib.Core.Path.{_≡_, ap, _∙_}
 use mathlib.Core.List.{List}
 use Prim.Native.Nat.{ℕ, suc, _+_, _-_, _*_}
 use native.Mathlib.Omega.{arith}
 use lib.ListN.{take, drop}
 use Rattle.order.specs.Order.{defaultOrder}
 use Rattle.receiver.specs.declared.Received.{Received}
 use Rattle.records.specs.declared.Record.{Record}
 use Rattle.receiver.specs.Receiving.{receive}
-use Rattle.hear.specs.Call.{frameAt, recordAfter, answerAt}
+use Rattle.receiver.specs.Frames.{frameAt, recordAfter, answerAt}
 
 module _ (bytes : List ℕ) (k : ℕ) (r : Record) (x : Received)
     (h : x ≡ receive defaultOrder r (take (7 * k + 7 - 7 * k) (drop (7 * k) bytes))) (e : r ≡ recordAfter bytes k) where

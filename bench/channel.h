@@ -1,0 +1,34 @@
+/* Standard input and output, as all C programs here use them. */
+#ifndef CHANNEL_H
+#define CHANNEL_H
+
+#include <stdint.h>
+#include <stdlib.h>
+#include <unistd.h>
+
+/* Reads until `size` bytes are there, the input ends or a read fails; the number of bytes. */
+static size_t read_input(uint8_t *input, size_t size)
+{
+    size_t length = 0;
+    while (length < size) {
+        ssize_t got = read(STDIN_FILENO, input + length, size - length);
+        if (got <= 0)
+            break;
+        length += (size_t)got;
+    }
+    return length;
+}
+
+/* Writes from `next` up to `end`; a write that fails ends the program. */
+static void write_output(const void *from, const void *end)
+{
+    const char *next = from;
+    while (next < (const char *)end) {
+        ssize_t put = write(STDOUT_FILENO, next, (size_t)((const char *)end - next));
+        if (put <= 0)
+            exit(EXIT_FAILURE);
+        next += put;
+    }
+}
+
+#endif

@@ -1,0 +1,72 @@
+// The sum over all whole frames, received one after another from a fresh record on.
+use crate::sums::of_answer;
+use records::Record;
+ghost use mathlib.Core.Path.{_≡_};
+ghost use Prim.Native.Nat.{suc, _+_, _*_, _≤_};
+ghost use lib.ListN.{length, take};
+ghost use Rattle.io.specs.Counts.{Counts};
+ghost use Rattle.receiver.specs.Frames.{framesIn, recordAfter, answerAt};
+ghost use Rattle.bench_receive.specs.Sums.{answerSum, sumBefore, bytesOf};
+
+// The receiver's record, and the sum so far.
+struct Total {
+    rec: Record,
+    sum: u64,
+}
+
+// Frame k: the receiver takes it.
+fn take_frame(before: Total, bytes: &[u8], k: usize) -> Total
+    requires { ⌜ (7 * suc k ≤ length (now bytes)) × (before .sum ≤ 10000000000 * k) × (k ≤ 9362) ⌝ }
+    requires { ⌜ before .rec ≡ recordAfter (now bytes) k ⌝ }
+    ensures record { λ r. ⌜ r .rec ≡ recordAfter (now (bytes .entry)) (suc k) ⌝ }
+    ensures sum { λ r. ⌜ r .sum ≡ before .sum + answerSum (answerAt (now (bytes .entry)) k) ⌝ }
+    ensures bound { λ r. ⌜ r .sum ≤ 10000000000 * suc k ⌝ }
+{
+    let rec = before.rec;
+    let received = receiver::receive(rec, &bytes[7 * k..7 * k + 7]);
+    let answer = received.answer;
+    let next = received.next;
+    Total {
+        rec: next,
+        sum: before.sum + of_answer(answer),
+    }
+}
+
+// All of them.
+fn sum_of(bytes: &[u8]) -> u64
+    requires { ⌜ length (now bytes) ≤ 65534 ⌝ }
+    ensures { λ r. ⌜ r ≡ sumBefore (now (bytes .entry)) (framesIn (now (bytes .entry))) ⌝ }
+{
+    let mut total = Total {
+        rec: records::fresh(),
+        sum: 0,
+    };
+    for k in 0..bytes.len() / 7 {
+        total = take_frame(total, bytes, k);
+    }
+    total.sum
+}
+
+// A number in eight bytes, most significant first.
+fn eight_bytes(n: u64) -> [u8; 8]
+    ensures { λ r. ⌜ r ≡ bytesOf n ⌝ }
+{
+    [
+        (n / 0x100000000000000 % 256) as u8,
+        (n / 0x1000000000000 % 256) as u8,
+        (n / 0x10000000000 % 256) as u8,
+        (n / 0x100000000 % 256) as u8,
+        (n / 0x1000000 % 256) as u8,
+        (n / 0x10000 % 256) as u8,
+        (n / 0x100 % 256) as u8,
+        (n % 256) as u8,
+    ]
+}
+
+// The sum in bytes, of the input of which the first `size` bytes of a buffer were read.
+pub(crate) fn sum_bytes(input: &[u8], size: usize) -> [u8; 8]
+    requires { ⌜ (length (now input) ≡ 65534) × Counts size (now input) ⌝ }
+    ensures { λ r. ⌜ r ≡ bytesOf (sumBefore (take size (now (input .entry))) (framesIn (take size (now (input .entry))))) ⌝ }
+{
+    eight_bytes(sum_of(&input[..size]))
+}
