@@ -7,45 +7,44 @@ use Rattle.receiver.specs.Frames.{answerAt}
 use Rattle.hear.specs.Call.{repeatOf}
 use Rattle.text.proofs.Additions.{line-added}
 use Rattle.receiver.proofs.Frames.{answer-is, next-is}
-use borrow.Author.Needs.{needs}
 use Rattle.hear.proofs.frames.take_frame.Statement.{statement}
 use Rattle.hear.proofs.frames.take_frame.Tie as tie
 
 mul-receive : tie.Need-mul-receive
-mul-receive c = search needs
+mul-receive c = omega arith
 
 mul-receive-2 : tie.Need-mul-receive-2
-mul-receive-2 c = search needs
+mul-receive-2 c = omega arith
 
 add-receive : tie.Need-add-receive
-add-receive c = search needs
+add-receive c = omega arith
 
 sub-receive : tie.Need-sub-receive
-sub-receive c = search needs
+sub-receive c = omega arith
 
 part-receive-start : tie.Need-part-receive-start
-part-receive-start c = search needs
+part-receive-start c = omega arith
 
 part-receive-end : tie.Need-part-receive-end
-part-receive-end c = search needs
+part-receive-end c = omega arith
 
 receive-requires : tie.Need-receive-requires
-receive-requires c κs = search needs
+receive-requires c κs = tt
 
 repeat-of-requires : tie.Need-repeat-of-requires
-repeat-of-requires c κs = search needs
+repeat-of-requires c κs = tt
 
 add-repeats : tie.Need-add-repeats
-add-repeats c = search needs
+add-repeats c = omega arith
 
 frame-line-requires : tie.Need-frame-line-requires
-frame-line-requires c κs = search needs
+frame-line-requires c κs = tt
 
 end-of-requires : tie.Need-end-of-requires
-end-of-requires c κs = search needs
+end-of-requires c κs = tt
 
 same-length : tie.Need-same-length
-same-length c = search needs
+same-length c = omega arith
 
 returns : tie.Need-returns
 returns c =

@@ -3,23 +3,23 @@ use mathlib.Core.Path.{_≡_, ap, _∙_}
 use mathlib.Core.List.{List}
 use Prim.Native.Nat.{ℕ}
 use lib.ListN.{length, take}
-use borrow.Author.Needs.{needs}
+use native.Mathlib.Omega.{arith}
 use Rattle.bits.specs.Lists.{ReadFrom}
 use Rattle.hear.specs.Call.{text, mostBytes, heard, AllPrinted}
 use Rattle.hear.proofs.printing.print_call.Statement.{statement}
 use Rattle.hear.proofs.printing.print_call.Tie as tie
 
 large-buffer-requires : tie.Need-large-buffer-requires
-large-buffer-requires c κs = search needs
+large-buffer-requires c κs = tt
 
 slice-aggregate-print-text : tie.Need-slice-aggregate-print-text
-slice-aggregate-print-text c = search needs
+slice-aggregate-print-text c = omega arith
 
 slice-aggregate-print-text-2 : tie.Need-slice-aggregate-print-text-2
-slice-aggregate-print-text-2 c = search needs
+slice-aggregate-print-text-2 c = omega arith
 
 print-text-requires : tie.Need-print-text-requires
-print-text-requires c κs = search needs
+print-text-requires c κs = omega arith
 
 -- what a buffer of that many bytes was read to is what is heard, and its text is what is printed
 read-heard : (buffer input : List ℕ) (size : ℕ) → length buffer ≡ mostBytes → ReadFrom buffer size input → take size buffer ≡ heard input

@@ -49,10 +49,10 @@ take-frame-requires c κs =
     ((search needs, omega (arith, r .1 .1 .1, i .0 .2, s .pre .1), omega (arith, r .1 .0, i .1 .2)), r .0 ∙ i .1 .0)
 
 add-k : tie.Need-add-k Inv-loop μ-loop
-add-k c = search needs
+add-k c = omega arith
 
 loop-less : tie.Need-loop-less Inv-loop μ-loop
-loop-less c = search needs
+loop-less c = omega arith
 
 loop-again : tie.Need-loop-again Inv-loop μ-loop
 unfolding textBefore repeatsBefore
@@ -74,7 +74,7 @@ loop-again c =
     )
 
 same-length : tie.Need-same-length Inv-loop μ-loop
-same-length c = search needs
+same-length c = omega arith
 
 returns : tie.Need-returns Inv-loop μ-loop
 returns c =
