@@ -1,8 +1,8 @@
 #!/usr/bin/env bash
 # run.sh [HEAR]: instructions a frame of the proved programs and of the same programs in C, on the same input: hear; receive by
-# itself (bench_receive); pack, with its set read from bytes (send). Status 1 if the programs write different bytes, or if proved
-# receiving takes more instructions than plain C. HEAR stands in for target/bin/hear. Needs clang, valgrind and the proved
-# programs (rt check hear bench_receive send).
+# itself (bench_receive); pack, with the set read from its bytes (send). "less it" is without those for an empty input, and the
+# ratio is that of the proved program to each. Status 1 if they write different bytes, or if hear or receive takes more than in
+# plain C. HEAR stands in for target/bin/hear. Needs clang, valgrind and the proved programs (rt check hear bench_receive send).
 set -euo pipefail
 top=$(cd "$(dirname "$0")/.." && pwd)
 hear=$(realpath "${1:-$top/target/bin/hear}")
@@ -22,42 +22,40 @@ count() {
   sed -n 's/^totals: //p' "$work/counts"
 }
 
-# row WHAT NAME PROGRAM INPUT FRAMES: a line of the table; leaves the count in `total`, and in `first` that of the first row.
+# row WHAT NAME PROGRAM INPUT FRAMES: a line of the table; leaves the count in `total`.
 row() {
   total=$(count "$3" "$4")
-  [ "$2" != proved ] || first=$total
-  awk -v what="$1" -v name="$2" -v total="$total" -v empty="$(count "$3" /dev/null)" -v frames="$5" -v first="$first" 'BEGIN {
-    printf "%-8s %-18s %11d %9.1f %12d %9.1f", what, name, total, total / frames, empty, (total - empty) / frames
-    if (name == "proved") print ""; else printf " %6.2f\n", first / total }'
+  awk -v what="$1" -v name="$2" -v total="$total" -v empty="$(count "$3" /dev/null)" -v frames="$5" -v proved="${proved:-$total}" 'BEGIN {
+    printf "%-8s %-18s %12d %9.1f %12d %9.1f %6.2f\n", what, name, total, total / frames, empty, (total - empty) / frames, proved / total }'
 }
 
-# same PROVED INPUT: the programs write the same bytes for the input, and for none.
+# same PROVED PROGRAM INPUT: they write the same bytes for the input, and for none.
 same() {
-  for input in "$2" /dev/null; do
-    "$1" <"$input" >"$work/expected"
-    for program in plain tuned moves; do
-      "$work/$program" <"$input" >"$work/written"
-      cmp "$work/expected" "$work/written"
-    done
+  for input in "$3" /dev/null; do
+    cmp <("$1" <"$input") <("$2" <"$input")
   done
 }
 
-# measure WHAT PROVED SOURCE INPUT FRAMES: leaves the counts in `first` and `plain`.
+# measure WHAT PROVED SOURCE INPUT FRAMES MANNER...: the proved program, and C in each manner; leaves the counts in `proved` and `plain`.
 measure() {
-  build plain "$3"
-  build tuned "$3" -DTUNED
-  build moves "$3" -DTUNED -DMOVES
-  same "$2" "$4"
+  proved=
   row "$1" proved "$2" "$4" "$5"
-  row "$1" 'plain C' "$work/plain" "$4" "$5"
-  plain=$total
-  row "$1" 'tuned C' "$work/tuned" "$4" "$5"
-  row "$1" 'tuned C, by moves' "$work/moves" "$4" "$5"
+  proved=$total
+  for manner in "${@:6}"; do
+    case $manner in
+    'plain C') build c "$3" ;;
+    'tuned C') build c "$3" -DTUNED ;;
+    *) build c "$3" -DTUNED -DMOVES ;;
+    esac
+    same "$2" "$work/c" "$4"
+    row "$1" "$manner" "$work/c" "$4" "$5"
+    [ "$manner" != 'plain C' ] || plain=$total
+  done
 }
 
 # fewer WHAT: the proved program takes no more than plain C.
 fewer() {
-  if ((first > plain)); then
+  if ((proved > plain)); then
     echo "$1: the proved program takes more instructions than plain C"
     exit 1
   fi
@@ -67,9 +65,9 @@ build frames frames.c
 "$work/frames" $frames $seed >"$work/input"
 "$work/frames" $sets $seed sets >"$work/sets"
 clang --version | head -n 1
-printf '%-8s %-18s %11s %9s %12s %9s %6s\n' what program instructions 'a frame' 'empty input' 'less it' ratio
-measure hear "$hear" hear.c "$work/input" $frames
+printf '%-8s %-18s %12s %9s %12s %9s %6s\n' what program instructions 'a frame' 'empty input' 'less it' ratio
+measure hear "$hear" hear.c "$work/input" $frames 'plain C' 'tuned C' 'tuned C, by moves'
 fewer hear
-measure receive "$top/target/bin/bench_receive" receive.c "$work/input" $frames
+measure receive "$top/target/bin/bench_receive" receive.c "$work/input" $frames 'plain C' 'tuned C' 'tuned C, by moves'
 fewer receive
-measure pack "$top/target/bin/send" send.c "$work/sets" $sets
+measure pack "$top/target/bin/send" send.c "$work/sets" $sets 'plain C' 'tuned C'

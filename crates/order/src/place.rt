@@ -42,8 +42,7 @@ fn seven_bytes(bits: u64) -> [u8; 7]
     ]
 }
 
-// The frame of the logical bits in the low 54 bits of a number. The places are filled six at a time: so short a loop is unrolled,
-// and then each shift is a constant.
+// The frame of the logical bits in the low 54 bits of a number. The places are filled six at a time: so short a loop is unrolled.
 pub fn place_bits(bits: u64) -> [u8; 7]
     ensures { λ r. ⌜ r ≡ frameOf defaultOrder (carried 54 bits) ⌝ }
 {

@@ -26,13 +26,13 @@ loop-holds : tie.Need-loop-holds Inv-loop μ-loop
 loop-holds c = search needs
 
 mul-is-between : tie.Need-mul-is-between Inv-loop μ-loop
-mul-is-between c = search needs
+mul-is-between c = omega arith
 
 shared-slice-copy-out-is-between : tie.Need-shared-slice-copy-out-is-between Inv-loop μ-loop
-shared-slice-copy-out-is-between c = search needs
+shared-slice-copy-out-is-between c = omega arith
 
 is-between-requires : tie.Need-is-between-requires Inv-loop μ-loop
-is-between-requires c κs = search needs
+is-between-requires c κs = tt
 
 add-i : tie.Need-add-i Inv-loop μ-loop
 add-i c = omega arith

@@ -6,7 +6,6 @@ use Prim.Native.Nat.{ℕ}
 use lib.Dec.{eqb}
 use lib.IntN.{ℤ}
 use lib.ListN.{length}
-use borrow.Author.Needs.{needs}
 use Rattle.bits.specs.Refusals.{firstRefusal}
 use Rattle.codebook.specs.Rows.{rowAt, lsfSize, lsfFits, allFit, rowUnless}
 use Rattle.codebook.specs.RowNumbers.{rowTable}
@@ -15,10 +14,10 @@ use Rattle.codebook.proofs.rows.lsf_row.Statement.{statement}
 use Rattle.codebook.proofs.rows.lsf_row.Tie as tie
 
 lsf-row-number-requires : tie.Need-lsf-row-number-requires
-lsf-row-number-requires c κs = search needs
+lsf-row-number-requires c κs = tt
 
 row-or-none-requires : tie.Need-row-or-none-requires
-row-or-none-requires c κs = search needs
+row-or-none-requires c κs = tt
 
 returns : tie.Need-returns
 returns c =

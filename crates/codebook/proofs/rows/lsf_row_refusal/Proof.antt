@@ -4,7 +4,6 @@ use mathlib.Core.Bool.{Bool}
 use Prim.Native.Nat.{ℕ}
 use lib.Dec.{eqb}
 use lib.ListN.{length}
-use borrow.Author.Needs.{needs}
 use Rattle.bits.specs.Refusals.{firstRefusal}
 use Rattle.codebook.specs.Rows.{rowAt, lsfSize, lsfFits, allFit}
 use Rattle.codebook.specs.RowNumbers.{rowTable}
@@ -13,10 +12,10 @@ use Rattle.codebook.proofs.rows.lsf_row_refusal.Statement.{statement}
 use Rattle.codebook.proofs.rows.lsf_row_refusal.Tie as tie
 
 lsf-row-number-requires : tie.Need-lsf-row-number-requires
-lsf-row-number-requires c κs = search needs
+lsf-row-number-requires c κs = tt
 
 row-refusal-requires : tie.Need-row-refusal-requires
-row-refusal-requires c κs = search needs
+row-refusal-requires c κs = tt
 
 returns : tie.Need-returns
 returns c =

@@ -1,10 +1,9 @@
 -- `codebook::rows::magnitude_row_refusal` meets its contract: it is the refusal of a row of this codebook. Assumes nothing.
-use borrow.Author.Needs.{needs}
 use Rattle.codebook.proofs.rows.magnitude_row_refusal.Statement.{statement}
 use Rattle.codebook.proofs.rows.magnitude_row_refusal.Tie as tie
 
 row-refusal-requires : tie.Need-row-refusal-requires
-row-refusal-requires c κs = search needs
+row-refusal-requires c κs = tt
 
 returns : tie.Need-returns
 returns c = c .row-refusal .ensures

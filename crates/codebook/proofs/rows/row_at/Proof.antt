@@ -3,7 +3,6 @@ use mathlib.Core.Path.{_≡_, ap, _∙_}
 use Prim.Native.Nat.{ℕ, _+_, _-_, _*_}
 use native.Mathlib.Omega.{arith}
 use lib.ListN.{length, take, drop}
-use borrow.Author.Needs.{needs}
 use Rattle.codebook.proofs.Answers.{row-length}
 use Rattle.codebook.proofs.rows.row_at.Statement.{statement}
 use Rattle.codebook.proofs.rows.row_at.Tie as tie
@@ -15,7 +14,7 @@ add-result : tie.Need-add-result
 add-result c = omega arith
 
 mul-result : tie.Need-mul-result
-mul-result c = search needs
+mul-result c = omega arith
 
 sub-result : tie.Need-sub-result
 sub-result c = omega arith

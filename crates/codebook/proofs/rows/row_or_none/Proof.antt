@@ -6,7 +6,6 @@ use lib.Dec.{ltb, eqb}
 use lib.ListN.{length}
 use mir.Syntax.{w64}
 use mir.ValLaws.{toZ-ofZ}
-use borrow.Author.Needs.{needs}
 use borrow.Author.Tests.{ltb-true, eqb-true}
 use Rattle.codebook.specs.Rows.{rowAt, between, allFit, rowUnless}
 use Rattle.codebook.specs.RowNumbers.{rowRefusal}
@@ -15,7 +14,7 @@ use Rattle.codebook.proofs.rows.row_or_none.Statement.{statement}
 use Rattle.codebook.proofs.rows.row_or_none.Tie as tie
 
 row-refusal-requires : tie.Need-row-refusal-requires
-row-refusal-requires c κs = search needs
+row-refusal-requires c κs = tt
 
 -- the refusal of the row
 refused : (c : tie.After-row-refusal) →
@@ -39,13 +38,13 @@ returns c =
     c .row-at .ensures .0 ∙ ap (λ (n : ℕ). rowUnless n (rowAt (a .codebook .now) (a .k))) (sym e)
 
 sub-result : tie.Need-sub-result
-sub-result c = search needs
+sub-result c = omega arith
 
 part-result-start : tie.Need-part-result-start
-part-result-start c = search needs
+part-result-start c = omega arith
 
 part-result-end : tie.Need-part-result-end
-part-result-end c = search needs
+part-result-end c = omega arith
 
 returns-2 : tie.Need-returns-2
 returns-2 c = sym (row-refused _ _ (λ e. c .before .if1 .left (refused (c .before .before) ∙ e)))

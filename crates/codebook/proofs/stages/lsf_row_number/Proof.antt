@@ -3,17 +3,16 @@ use mathlib.Core.Path.{_≡_, sym}
 use mathlib.Core.Bool.{true, false}
 use native.Mathlib.Omega.{arith}
 use lib.Dec.{ltb}
-use borrow.Author.Needs.{needs}
 use borrow.Author.Tests.{lt-ltb, le-ltb}
 use Rattle.codebook.specs.Rows.{stageRows}
 use Rattle.codebook.proofs.stages.lsf_row_number.Statement.{statement}
 use Rattle.codebook.proofs.stages.lsf_row_number.Tie as tie
 
 stage-rows-requires : tie.Need-stage-rows-requires
-stage-rows-requires c κs = search needs
+stage-rows-requires c κs = tt
 
 stage-start-requires : tie.Need-stage-start-requires
-stage-start-requires c κs = search needs
+stage-start-requires c κs = tt
 
 add-result : tie.Need-add-result
 add-result c = omega arith

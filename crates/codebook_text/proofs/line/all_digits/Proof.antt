@@ -24,7 +24,7 @@ shared-slice-read-is-digit : tie.Need-shared-slice-read-is-digit Inv-loop μ-loo
 shared-slice-read-is-digit c = omega arith
 
 is-digit-requires : tie.Need-is-digit-requires Inv-loop μ-loop
-is-digit-requires c κs = search needs
+is-digit-requires c κs = tt
 
 returns : tie.Need-returns Inv-loop μ-loop
 returns c =

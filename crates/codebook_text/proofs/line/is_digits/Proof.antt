@@ -4,12 +4,11 @@ use mathlib.Core.Bool.{Bool, _&&_}
 use lib.Dec.{leb}
 use lib.ListN.{length}
 use Rattle.codebook_text.specs.Text.{isDigits}
-use borrow.Author.Needs.{needs}
 use Rattle.codebook_text.proofs.line.is_digits.Statement.{statement}
 use Rattle.codebook_text.proofs.line.is_digits.Tie as tie
 
 all-digits-requires : tie.Need-all-digits-requires
-all-digits-requires c κs = search needs
+all-digits-requires c κs = tt
 
 returns : tie.Need-returns
 unfolding isDigits

@@ -6,7 +6,6 @@ use Prim.Native.Nat.{ℕ}
 use native.Mathlib.Omega.{arith}
 use lib.Dec.{eqb}
 use lib.ListN.{length, getD}
-use borrow.Author.Needs.{needs}
 use Rattle.codebook_text.specs.Text.{isNegative}
 use Rattle.codebook_text.proofs.line.is_negative.Statement.{statement}
 use Rattle.codebook_text.proofs.line.is_negative.Tie as tie
@@ -27,7 +26,7 @@ returns : tie.Need-returns
 returns c = empty (c .before .args .line .now) (c .if1 .taken)
 
 shared-slice-read-result : tie.Need-shared-slice-read-result
-shared-slice-read-result c = search needs
+shared-slice-read-result c = omega arith
 
 returns-2 : tie.Need-returns-2
 returns-2 c = first (c .before .before .args .line .now) (c .before .if1 .left)

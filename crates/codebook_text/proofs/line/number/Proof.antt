@@ -4,21 +4,21 @@ use mathlib.Core.Bool.{true, false}
 use Rattle.codebook_text.specs.Text.{isNegative, unsigned, digitsValue, numberOf}
 use Rattle.codebook_text.proofs.Digits.{number-digits}
 use Rattle.codebook_text.proofs.Signs.{signed-is, negated-fits, negated-is}
-use borrow.Author.Needs.{needs}
+use native.Mathlib.Omega.{arith}
 use Rattle.codebook_text.proofs.line.number.Statement.{statement}
 use Rattle.codebook_text.proofs.line.number.Tie as tie
 
 unsigned-part-requires : tie.Need-unsigned-part-requires
-unsigned-part-requires c κs = search needs
+unsigned-part-requires c κs = tt
 
 digits-value-requires : tie.Need-digits-value-requires
 digits-value-requires c κs = rw (c .unsigned-part .ensures) (number-digits (c .before .before .args .line .now) (c .before .before .pre))
 
 cast-size : tie.Need-cast-size
-cast-size c = search needs
+cast-size c = omega arith
 
 is-negative-requires : tie.Need-is-negative-requires
-is-negative-requires c κs = search needs
+is-negative-requires c κs = tt
 
 sub-result : tie.Need-sub-result
 sub-result c = negated-fits (c .before .before .digits-value .result) (c .before .before .digits-value .ensures .1)

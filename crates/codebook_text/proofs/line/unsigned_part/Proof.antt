@@ -8,7 +8,6 @@ use lib.ListN.{length, take, drop, length-drop}
 use lib.Seq.{take-all}
 use Rattle.codebook_text.specs.Text.{isNegative, unsigned}
 use Rattle.codebook_text.proofs.Digits.{negative-some}
-use borrow.Author.Needs.{needs}
 use Rattle.codebook_text.proofs.line.unsigned_part.Statement.{statement}
 use Rattle.codebook_text.proofs.line.unsigned_part.Tie as tie
 
@@ -31,7 +30,7 @@ some : (c : tie.Then1) → 1 ≤ length (c .before .before .before .args .line .
 some c = negative-some (c .before .before .before .args .line .now) (minus c)
 
 is-negative-requires : tie.Need-is-negative-requires
-is-negative-requires c κs = search needs
+is-negative-requires c κs = tt
 
 sub-result : tie.Need-sub-result
 sub-result c = omega (arith, some c)
@@ -40,7 +39,7 @@ part-result-start : tie.Need-part-result-start
 part-result-start c = omega (arith, some c)
 
 part-result-end : tie.Need-part-result-end
-part-result-end c = search needs
+part-result-end c = omega arith
 
 returns : tie.Need-returns
 returns c = past (c .before .before .before .before .args .line .now) (minus (c .before))

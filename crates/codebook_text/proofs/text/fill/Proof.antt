@@ -34,7 +34,7 @@ loop-holds c =
     (refl, omega arith, refl, omega arith, rw e (s .pre), rw e refl)
 
 line-end-requires : tie.Need-line-end-requires Inv-loop μ-loop
-line-end-requires c κs = search needs
+line-end-requires c κs = omega arith
 
 -- the place of the line at hand
 place : (c : tie.After-line-end Inv-loop μ-loop) →
@@ -56,10 +56,10 @@ number-requires : tie.Need-number-requires Inv-loop μ-loop
 number-requires c κs = let p = place (c .before) in rw (line-is p) (lines-parts p (c .before .before .before .loop .inv .4) .good)
 
 mul-t13 : tie.Need-mul-t13 Inv-loop μ-loop
-mul-t13 c = search needs
+mul-t13 c = omega arith
 
 slice-set-from-codebook : tie.Need-slice-set-from-codebook Inv-loop μ-loop
-slice-set-from-codebook c = search needs
+slice-set-from-codebook c = omega arith
 
 add-at : tie.Need-add-at Inv-loop μ-loop
 add-at c =
@@ -84,7 +84,7 @@ loop-again c =
     (L .inv .0, omega arith, search needs, omega (arith, g .ended), g .rest, numbers-more p (L .codebook) _ _ (omega arith) v (L .inv .5))
 
 same-length : tie.Need-same-length Inv-loop μ-loop
-same-length c = search needs
+same-length c = omega arith
 
 returns : tie.Need-returns Inv-loop μ-loop
 returns c = let L = c .before .loop in numbers-all _ (L .codebook) _ _ (L .i) (omega arith) (omega arith) (L .inv .5)

@@ -6,7 +6,6 @@ use lib.ListN.{length, drop}
 use borrow.Author.Tests.{not-true, not-false}
 use Rattle.codebook_text.specs.Text.{lineOf, isNumber, isLines}
 use Rattle.codebook_text.proofs.Turns.{empty-is, Place, line-is, lines-open, lines-bad, lines-good}
-use borrow.Author.Needs.{needs}
 use Rattle.codebook_text.proofs.text.is_lines.Statement.{statement}
 use Rattle.codebook_text.proofs.text.is_lines.Tie as tie
 
@@ -23,7 +22,7 @@ loop-holds c =
     (omega arith, omega arith, rw e refl)
 
 line-end-requires : tie.Need-line-end-requires Inv-loop μ-loop
-line-end-requires c κs = search needs
+line-end-requires c κs = omega arith
 
 -- the place of the line at hand
 place : (c : tie.After-line-end Inv-loop μ-loop) →
@@ -47,7 +46,7 @@ part-is-number-end : tie.Need-part-is-number-end Inv-loop μ-loop
 part-is-number-end c = omega arith
 
 is-number-requires : tie.Need-is-number-requires Inv-loop μ-loop
-is-number-requires c κs = search needs
+is-number-requires c κs = tt
 
 -- what the call says of the line at hand
 judged : (c : tie.After-is-number Inv-loop μ-loop) →

@@ -3,7 +3,7 @@ use mathlib.Core.Path.{_≡_, sym, _∙_}
 use mathlib.Core.Bool.{true}
 use Rattle.codebook_text.specs.Text.{isLines}
 use Rattle.codebook_text.proofs.Answers.{size-owes, lines-owe, numbers-owe}
-use borrow.Author.Needs.{needs}
+use native.Mathlib.Omega.{arith}
 use Rattle.codebook_text.proofs.text.read.Statement.{statement}
 use Rattle.codebook_text.proofs.text.read.Tie as tie
 
@@ -17,14 +17,14 @@ returns c =
     size-owes (s .size) (s .text .now) (s .codebook .now) (c .if1 .taken)
 
 is-lines-requires : tie.Need-is-lines-requires
-is-lines-requires c κs = search needs
+is-lines-requires c κs = tt
 
 fill-requires : tie.Need-fill-requires
 fill-requires c κs =
     rw (c .before .before .before .if1 .left) (good (c .before))
 
 same-length : tie.Need-same-length
-same-length c = search needs
+same-length c = omega arith
 
 returns-2 : tie.Need-returns-2
 returns-2 c =

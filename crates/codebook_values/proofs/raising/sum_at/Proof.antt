@@ -3,7 +3,7 @@ use mathlib.Core.Path.{_≡_, sym, _∙_}
 use mathlib.Core.Bool.{true}
 use lib.IntN.{ℤ, pos}
 use lib.ListN.{getD}
-use borrow.Author.Needs.{needs}
+use native.Mathlib.Omega.{arith}
 use Rattle.codebook.specs.Rows.{lsfFits, allFit}
 use Rattle.codebook.proofs.Entries.{fit-at}
 use Rattle.codebook_values.proofs.FourRows.{and-four}
@@ -13,28 +13,28 @@ use Rattle.codebook_values.proofs.raising.sum_at.Statement.{statement}
 use Rattle.codebook_values.proofs.raising.sum_at.Tie as tie
 
 mul-four-sum : tie.Need-mul-four-sum
-mul-four-sum c = search needs
+mul-four-sum c = omega arith
 
 shared-slice-copy-out-four-sum : tie.Need-shared-slice-copy-out-four-sum
-shared-slice-copy-out-four-sum c = search needs
+shared-slice-copy-out-four-sum c = omega arith
 
 mul-four-sum-2 : tie.Need-mul-four-sum-2
-mul-four-sum-2 c = search needs
+mul-four-sum-2 c = omega arith
 
 shared-slice-copy-out-four-sum-2 : tie.Need-shared-slice-copy-out-four-sum-2
-shared-slice-copy-out-four-sum-2 c = search needs
+shared-slice-copy-out-four-sum-2 c = omega arith
 
 mul-four-sum-3 : tie.Need-mul-four-sum-3
-mul-four-sum-3 c = search needs
+mul-four-sum-3 c = omega arith
 
 shared-slice-copy-out-four-sum-3 : tie.Need-shared-slice-copy-out-four-sum-3
-shared-slice-copy-out-four-sum-3 c = search needs
+shared-slice-copy-out-four-sum-3 c = omega arith
 
 mul-four-sum-4 : tie.Need-mul-four-sum-4
-mul-four-sum-4 c = search needs
+mul-four-sum-4 c = omega arith
 
 shared-slice-copy-out-four-sum-4 : tie.Need-shared-slice-copy-out-four-sum-4
-shared-slice-copy-out-four-sum-4 c = search needs
+shared-slice-copy-out-four-sum-4 c = omega arith
 
 -- the four entries, and that each is within the limit
 abbrev entry-a : tie.Start → ℤ

@@ -31,13 +31,13 @@ sum-at-requires : tie.Need-sum-at-requires Inv-loop μ-loop
 sum-at-requires c κs = ((omega arith, omega arith, omega arith, omega arith), c .before .before .pre .1)
 
 larger-requires : tie.Need-larger-requires Inv-loop μ-loop
-larger-requires c κs = search needs
+larger-requires c κs = tt
 
 mul-value : tie.Need-mul-value Inv-loop μ-loop
-mul-value c = search needs
+mul-value c = omega arith
 
 slice-set-from-value : tie.Need-slice-set-from-value Inv-loop μ-loop
-slice-set-from-value c = search needs
+slice-set-from-value c = omega arith
 
 -- the sums of the four rows, and how many there are
 abbrev sums : tie.Start Inv-loop μ-loop → List ℤ
@@ -84,7 +84,7 @@ loop-again c =
     (omega arith, search needs, rw next (n .0), rw (next, r) (omega (arith, value-le v, abs-add-le (v .larger .result) spacing)), n .1)
 
 same-length : tie.Need-same-length Inv-loop μ-loop
-same-length c = search needs
+same-length c = omega arith
 
 returns : tie.Need-returns Inv-loop μ-loop
 returns c =

@@ -2,7 +2,7 @@
 -- Assumes nothing.
 use mathlib.Core.Path.{refl, sym, _∙_}
 use lib.ListN.{length}
-use borrow.Author.Needs.{needs}
+use native.Mathlib.Omega.{arith}
 use borrow.Author.Tests.{eqb-true}
 use Rattle.sets.specs.Sets.{indicesIn}
 use Rattle.codebook.specs.Rows.{lsfSize}
@@ -13,10 +13,10 @@ use Rattle.codebook_values.proofs.values.lsf_values.Statement.{statemen
 use Rattle.codebook_values.proofs.values.lsf_values.Tie as tie
 
 is-in-range-requires : tie.Need-is-in-range-requires
-is-in-range-requires c κs = search needs
+is-in-range-requires c κs = tt
 
 values-refusal-requires : tie.Need-values-refusal-requires
-values-refusal-requires c κs = search needs
+values-refusal-requires c κs = tt
 
 returns : tie.Need-returns
 unfolding lsfAnswer lsfWrites
@@ -27,7 +27,7 @@ returns c =
     early-owes (a .set) (a .codebook .now) lsfSize (a .out .now) (r .is-in-range .result) (v .result) (r .is-in-range .ensures) (v .ensures) _ (ofRows rowsFit (a .codebook .now) (indicesIn (a .set))) (c .if1 .taken)
 
 indices-of-requires : tie.Need-indices-of-requires
-indices-of-requires c κs = search needs
+indices-of-requires c κs = tt
 
 -- what is known past the first tests
 past : (c : tie.Else1) → let a = c .before .before .before .args in Passed (a .set) (a .codebook .now) lsfSize (length (a .out .now))
@@ -38,16 +38,16 @@ past c =
     early-passed (a .set) (a .codebook .now) lsfSize (a .out .now) (r .is-in-range .result) (v .result) (r .is-in-range .ensures) (v .ensures) (c .if1 .left)
 
 lsf-row-requires : tie.Need-lsf-row-requires
-lsf-row-requires c κs = search needs
+lsf-row-requires c κs = tt
 
 lsf-row-requires-2 : tie.Need-lsf-row-requires-2
-lsf-row-requires-2 c κs = search needs
+lsf-row-requires-2 c κs = tt
 
 lsf-row-requires-3 : tie.Need-lsf-row-requires-3
-lsf-row-requires-3 c κs = search needs
+lsf-row-requires-3 c κs = tt
 
 lsf-row-requires-4 : tie.Need-lsf-row-requires-4
-lsf-row-requires-4 c κs = search needs
+lsf-row-requires-4 c κs = tt
 
 -- the four rows
 rows : (c : tie.After-lsf-row4) →
@@ -69,7 +69,7 @@ write-raised-requires c κs =
     ((eqb-true _ 10 (f .0), eqb-true _ 10 (f .1), eqb-true _ 10 (f .2), eqb-true _ 10 (f .3), long), rows (t .before) .are (t .if2 .taken) .1)
 
 same-length : tie.Need-same-length
-same-length c = search needs
+same-length c = omega arith
 
 returns-2 : tie.Need-returns-2
 unfolding lsfValues lsfAnswer lsfWrites

@@ -3,7 +3,6 @@ use mathlib.Core.Path.{sym, ap, _∙_}
 use Prim.Native.Nat.{_<_}
 use native.Mathlib.Omega.{arith}
 use lib.ListN.{length}
-use borrow.Author.Needs.{needs}
 use Rattle.codebook.specs.Rows.{magnitudeSize}
 use Rattle.codebook.proofs.Answers.{magnitude-row-handed}
 use Rattle.codebook_values.specs.Values.{magnitudes, magnitudesFit, magnitudesAnswer, magnitudesWrites}
@@ -12,10 +11,10 @@ use Rattle.codebook_values.proofs.values.magnitudes.Statement.{statemen
 use Rattle.codebook_values.proofs.values.magnitudes.Tie as tie
 
 is-in-range-requires : tie.Need-is-in-range-requires
-is-in-range-requires c κs = search needs
+is-in-range-requires c κs = tt
 
 values-refusal-requires : tie.Need-values-refusal-requires
-values-refusal-requires c κs = search needs
+values-refusal-requires c κs = tt
 
 returns : tie.Need-returns
 unfolding magnitudesAnswer magnitudesWrites
@@ -26,13 +25,13 @@ returns c =
     early-owes (a .set) (a .codebook .now) magnitudeSize (a .out .now) (r .is-in-range .result) (v .result) (r .is-in-range .ensures) (v .ensures) _ (magnitudesFit (a .codebook .now) (a .set)) (c .if1 .taken)
 
 enum-known-set : tie.Need-enum-known-set
-enum-known-set c = search needs
+enum-known-set c = omega arith
 
 enum-told : tie.Need-enum-told
-enum-told c = search needs
+enum-told c = omega arith
 
 slice-aggregate-write-row : tie.Need-slice-aggregate-write-row
-slice-aggregate-write-row c = search needs
+slice-aggregate-write-row c = omega arith
 
 -- what is known past the first tests
 past : (c : tie.Else1) → let a = c .before .before .before .args in Passed (a .set) (a .codebook .now) magnitudeSize (length (a .out .now))
@@ -46,7 +45,7 @@ write-row-requires : tie.Need-write-row-requires
 write-row-requires c κs = past (c .before .before .before .before) .long
 
 same-length : tie.Need-same-length
-same-length c = search needs
+same-length c = omega arith
 
 returns-2 : tie.Need-returns-2
 unfolding magnitudesAnswer magnitudesWrites
@@ -61,10 +60,10 @@ returns-2 c =
     (λ t. ap (magnitudes k) told) (w .write-row .ensures)
 
 cast-magnitude-row : tie.Need-cast-magnitude-row
-cast-magnitude-row c = search needs
+cast-magnitude-row c = omega arith
 
 magnitude-row-requires : tie.Need-magnitude-row-requires
-magnitude-row-requires c κs = search needs
+magnitude-row-requires c κs = tt
 
 -- the row's index is a byte
 index-lt : (c : tie.After-magnitude-row) → c .before .before .before .set .given .0 .1 .0 .fourier < 256
@@ -74,7 +73,7 @@ write-row-requires-2 : tie.Need-write-row-requires-2
 write-row-requires-2 c κs = past (c .before .before .before .before .before .before) .long
 
 same-length-2 : tie.Need-same-length-2
-same-length-2 c = search needs
+same-length-2 c = omega arith
 
 returns-3 : tie.Need-returns-3
 unfolding magnitudesAnswer magnitudesWrites

@@ -1,19 +1,19 @@
 -- `frame::layout::code_of` meets its contract: an index in range is not refused. Assumes nothing.
 use mathlib.Core.Path.{_≡_, sym, ap, _∙_}
-use borrow.Author.Needs.{needs}
+use native.Mathlib.Omega.{arith}
 use Rattle.pitch.specs.Pitch.{codeOf, codeIn}
 use Rattle.pitch.proofs.Answers.{code-in-is}
 use Rattle.frame.proofs.layout.code_of.Statement.{statement}
 use Rattle.frame.proofs.layout.code_of.Tie as tie
 
 encode-requires : tie.Need-encode-requires
-encode-requires c κs = search needs
+encode-requires c κs = tt
 
 enum-known-code : tie.Need-enum-known-code
-enum-known-code c = search needs
+enum-known-code c = omega arith
 
 enum-told : tie.Need-enum-told
-enum-told c = search needs
+enum-told c = omega arith
 
 -- the code in the call's answer is that of the index
 answered : (c : tie.After-encode) → codeIn (c .encode .result) ≡ codeOf (c .before .args .index)

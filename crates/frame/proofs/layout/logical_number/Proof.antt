@@ -13,6 +13,7 @@ use Rattle.sets.specs.declared.ParameterSet.{ParameterSet}
 use Rattle.sets.specs.declared.ParameterSet.the-variants.{Voiced}
 use Rattle.sets.proofs.Ranges.{IndexRanges, VoicingRanges, index-ranges, voicing-ranges, sendable-fits}
 use Rattle.frame.proofs.Numbers.{logical-value}
+use native.Mathlib.Omega.{arith}
 use borrow.Author.Needs.{needs}
 use Rattle.frame.proofs.layout.logical_number.Statement.{statement}
 use Rattle.frame.proofs.layout.logical_number.Tie as tie
@@ -32,7 +33,7 @@ voiced-ranges c =
     (index-ranges x (and-left (indicesFit x) (voicingFits v) t), voicing-ranges v (and-right (indicesFit x) (voicingFits v) t))
 
 enum-known-set : tie.Need-enum-known-set
-enum-known-set c = search needs
+enum-known-set c = omega arith
 
 unvoiced-words-requires : tie.Need-unvoiced-words-requires
 unvoiced-words-requires c κs =
@@ -40,7 +41,7 @@ unvoiced-words-requires c κs =
     (r .l1, r .g2, r .g1)
 
 mul-result : tie.Need-mul-result
-mul-result c = search needs
+mul-result c = omega arith
 
 other-bits-requires : tie.Need-other-bits-requires
 other-bits-requires c κs =
@@ -48,10 +49,10 @@ other-bits-requires c κs =
     (r .l2, r .l3, r .l4, search needs)
 
 add-result : tie.Need-add-result
-add-result c = search needs
+add-result c = omega arith
 
 enum-known-set-2 : tie.Need-enum-known-set-2
-enum-known-set-2 c = search needs
+enum-known-set-2 c = omega arith
 
 voiced-words-requires : tie.Need-voiced-words-requires
 voiced-words-requires c κs =
@@ -59,7 +60,7 @@ voiced-words-requires c κs =
     ((r .0 .l1, r .0 .g2, r .0 .g1), (r .1 .bandpass, r .1 .aperiodic))
 
 mul-result-2 : tie.Need-mul-result-2
-mul-result-2 c = search needs
+mul-result-2 c = omega arith
 
 code-of-requires : tie.Need-code-of-requires
 code-of-requires c κs = voiced-ranges (c .before .before) .1 .pitch
@@ -70,7 +71,7 @@ other-bits-requires-2 c κs =
     (r .0 .l2, r .0 .l3, r .0 .l4, subst⁻¹ (λ (n : ℕ). n < 128) (c .code-of .ensures) (code-lt _ (r .1 .pitch)))
 
 add-result-2 : tie.Need-add-result-2
-add-result-2 c = search needs
+add-result-2 c = omega arith
 
 returns : tie.Need-returns
 unfolding logical

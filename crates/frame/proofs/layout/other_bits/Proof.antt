@@ -38,7 +38,7 @@ mul-result-2 : tie.Need-mul-result-2
 mul-result-2 c = omega arith
 
 bit-number-requires : tie.Need-bit-number-requires
-bit-number-requires c κs = search needs
+bit-number-requires c κs = tt
 
 add-result-2 : tie.Need-add-result-2
 add-result-2 c = omega arith

@@ -1,7 +1,7 @@
 -- `frame::layout::unvoiced_words` meets its contract: the parity of each word is that of its data. Assumes nothing.
 use mathlib.Core.Path.{refl, ap, _∙_}
 use Prim.Native.Nat.{_/_, _%_, _*_, _+_}
-use borrow.Author.Needs.{needs}
+use native.Mathlib.Omega.{arith}
 use Rattle.bits.specs.Bits.{value, bits}
 use Rattle.bits.proofs.Value.{value-bound}
 use Rattle.hamming.specs.Word.{parityOf}
@@ -10,22 +10,22 @@ use Rattle.frame.proofs.layout.unvoiced_words.Statement.{statement}
 use Rattle.frame.proofs.layout.unvoiced_words.Tie as tie
 
 parity-of-requires : tie.Need-parity-of-requires
-parity-of-requires c κs = search needs
+parity-of-requires c κs = tt
 
 parity-of-requires-2 : tie.Need-parity-of-requires-2
-parity-of-requires-2 c κs = search needs
+parity-of-requires-2 c κs = tt
 
 parity-of-requires-3 : tie.Need-parity-of-requires-3
-parity-of-requires-3 c κs = search needs
+parity-of-requires-3 c κs = tt
 
 mul-parity-of : tie.Need-mul-parity-of
-mul-parity-of c = search needs
+mul-parity-of c = omega arith
 
 add-parity-of : tie.Need-add-parity-of
-add-parity-of c = search needs
+add-parity-of c = omega arith
 
 parity-of-requires-4 : tie.Need-parity-of-requires-4
-parity-of-requires-4 c κs = search needs
+parity-of-requires-4 c κs = tt
 
 -- the calls for the parity of the four words
 module _ (at-d : tie.After-parity-of4) where

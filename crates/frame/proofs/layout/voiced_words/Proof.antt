@@ -1,19 +1,19 @@
 -- `frame::layout::voiced_words` meets its contract: the Fourier index is cut into the parity places. Assumes nothing.
 use mathlib.Core.Path.{ap, _∙_}
-use borrow.Author.Needs.{needs}
+use native.Mathlib.Omega.{arith}
 use Rattle.bits.specs.Bits.{value}
 use Rattle.frame.proofs.Numbers.{voiced-words}
 use Rattle.frame.proofs.layout.voiced_words.Statement.{statement}
 use Rattle.frame.proofs.layout.voiced_words.Tie as tie
 
 mul-four-words : tie.Need-mul-four-words
-mul-four-words c = search needs
+mul-four-words c = omega arith
 
 add-four-words : tie.Need-add-four-words
-add-four-words c = search needs
+add-four-words c = omega arith
 
 four-words-requires : tie.Need-four-words-requires
-four-words-requires c κs = search needs
+four-words-requires c κs = omega arith
 
 returns : tie.Need-returns
 returns c =

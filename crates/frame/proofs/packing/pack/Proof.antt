@@ -1,6 +1,6 @@
 -- `frame::packing::pack` meets its contract: the tests decide the refusal, and what is written is the frame. Assumes nothing.
 use mathlib.Core.Path.{sym, _∙_}
-use borrow.Author.Needs.{needs}
+use native.Mathlib.Omega.{arith}
 use Rattle.order.specs.Order.{defaultOrder}
 use Rattle.frame.proofs.Answers.{number-frame, short-owes, range-owes, packed-owes}
 use Rattle.frame.proofs.packing.pack.Statement.{statement}
@@ -12,19 +12,19 @@ returns c =
     short-owes (a .set) (a .sync) (a .out .now) (c .if1 .taken)
 
 is-sendable-requires : tie.Need-is-sendable-requires
-is-sendable-requires c κs = search needs
+is-sendable-requires c κs = tt
 
 logical-number-requires : tie.Need-logical-number-requires
 logical-number-requires c κs = sym (c .before .before .is-sendable .ensures) ∙ c .before .if2 .taken
 
 place-bits-requires : tie.Need-place-bits-requires
-place-bits-requires c κs = search needs
+place-bits-requires c κs = tt
 
 write-front-requires : tie.Need-write-front-requires
-write-front-requires c κs = search needs
+write-front-requires c κs = omega arith
 
 same-length : tie.Need-same-length
-same-length c = search needs
+same-length c = omega arith
 
 returns-2 : tie.Need-returns-2
 returns-2 c =

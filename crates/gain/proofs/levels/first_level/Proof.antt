@@ -1,11 +1,10 @@
 -- `gain::levels::first_level` meets its contract: each answer goes by the test before it. Assumes nothing.
-use borrow.Author.Needs.{needs}
 use Rattle.gain.specs.Levels.{firstLevelAnswer}
 use Rattle.gain.proofs.levels.first_level.Statement.{statement}
 use Rattle.gain.proofs.levels.first_level.Tie as tie
 
 first-level-of-requires : tie.Need-first-level-of-requires
-first-level-of-requires c κs = search needs
+first-level-of-requires c κs = tt
 
 returns : tie.Need-returns
 unfolding firstLevelAnswer

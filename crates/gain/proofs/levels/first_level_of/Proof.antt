@@ -2,7 +2,6 @@
 use Prim.Native.Nat.{_-_, _*_, _≤_}
 use native.Mathlib.Nat.{mul-le-mul}
 use native.Mathlib.Omega.{arith}
-use borrow.Author.Needs.{needs}
 use Rattle.gain.specs.Levels.{firstLevel}
 use Rattle.gain.proofs.FirstLevel.{first-is}
 use Rattle.gain.proofs.levels.first_level_of.Statement.{statement}
@@ -13,29 +12,29 @@ steps-fit : (c : tie.After-first-step) → (c .before .before .before .before .b
 steps-fit c = mul-le-mul {n₂ = 255} {m₂ = 20000} (omega arith) (omega arith)
 
 mean-level-requires : tie.Need-mean-level-requires
-mean-level-requires c κs = search needs
+mean-level-requires c κs = tt
 
 returns : tie.Need-returns
 unfolding firstLevel
 returns c = simp (c .before .if1 .taken, c .mean-level .ensures)
 
 level-of-requires : tie.Need-level-of-requires
-level-of-requires c κs = search needs
+level-of-requires c κs = tt
 
 level-of-requires-2 : tie.Need-level-of-requires-2
-level-of-requires-2 c κs = search needs
+level-of-requires-2 c κs = tt
 
 smaller-requires : tie.Need-smaller-requires
-smaller-requires c κs = search needs
+smaller-requires c κs = tt
 
 sub-result : tie.Need-sub-result
-sub-result c = search needs
+sub-result c = omega arith
 
 sub-result-2 : tie.Need-sub-result-2
-sub-result-2 c = search needs
+sub-result-2 c = omega arith
 
 first-step-requires : tie.Need-first-step-requires
-first-step-requires c κs = search needs
+first-step-requires c κs = tt
 
 mul-result : tie.Need-mul-result
 mul-result c = omega (arith, steps-fit c)

@@ -1,12 +1,11 @@
 -- `gain::levels::level` meets its contract: each answer goes by the test before it. Assumes nothing.
-use borrow.Author.Needs.{needs}
 use borrow.Author.Tests.{le-leb, lt-leb}
 use Rattle.gain.specs.Levels.{levelAnswer}
 use Rattle.gain.proofs.levels.level.Statement.{statement}
 use Rattle.gain.proofs.levels.level.Tie as tie
 
 level-of-requires : tie.Need-level-of-requires
-level-of-requires c κs = search needs
+level-of-requires c κs = tt
 
 returns : tie.Need-returns
 unfolding levelAnswer

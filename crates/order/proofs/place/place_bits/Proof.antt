@@ -3,7 +3,6 @@ use mathlib.Core.Path.{_∙_}
 use mathlib.Core.Bool.{Bool}
 use Prim.Native.Nat.{ℕ, _*_, _-_}
 use native.Mathlib.Omega.{arith}
-use borrow.Author.Needs.{needs}
 use Rattle.bits.specs.Bits.{carried}
 use Rattle.order.specs.Order.{defaultOrder, placed, frameOf}
 use Rattle.order.proofs.Gathering.{Gathered, gathered-none, gathered-group, gathered-all, placed-bytes}
@@ -47,7 +46,7 @@ mul-seven-bytes : tie.Need-mul-seven-bytes Inv-loop μ-loop
 mul-seven-bytes c = omega arith
 
 seven-bytes-requires : tie.Need-seven-bytes-requires Inv-loop μ-loop
-seven-bytes-requires c κs = search needs
+seven-bytes-requires c κs = tt
 
 returns : tie.Need-returns Inv-loop μ-loop
 unfolding frameOf

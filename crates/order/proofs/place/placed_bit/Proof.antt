@@ -27,16 +27,16 @@ table-lt : (t : ℕ) → t < 54 → getD table t 0 < 54
 table-lt t h = subst⁻¹ (λ (l : List ℕ). getD l t 0 < 54) table-is (entry-lt defaultOrder default-order t h)
 
 array-read-result : tie.Need-array-read-result
-array-read-result c = search needs
+array-read-result c = omega arith
 
 sub-result : tie.Need-sub-result
 sub-result c = omega (arith, table-lt (c .args .t) (c .pre))
 
 cast-result : tie.Need-cast-result
-cast-result c = search needs
+cast-result c = omega arith
 
 shr-result : tie.Need-shr-result
-shr-result c = search needs
+shr-result c = omega arith
 
 returns : tie.Need-returns
 returns c =

@@ -6,17 +6,16 @@ use Prim.Native.Nat.{_≤_}
 use lib.Dec.{leb}
 use mir.Syntax.{w32}
 use mir.ValLaws.{toZ-ofZ}
-use borrow.Author.Needs.{needs}
 use borrow.Author.Tests.{leb-true}
 use Rattle.quantiser.specs.Choice.{levelInRange, chosenG2, chosenG1, chooseAnswer}
 use Rattle.quantiser.proofs.choice.choose.Statement.{statement}
 use Rattle.quantiser.proofs.choice.choose.Tie as tie
 
 level-in-range-requires : tie.Need-level-in-range-requires
-level-in-range-requires c κs = search needs
+level-in-range-requires c κs = tt
 
 level-in-range-requires-2 : tie.Need-level-in-range-requires-2
-level-in-range-requires-2 c κs = search needs
+level-in-range-requires-2 c κs = tt
 
 -- what the calls found of the levels themselves
 first-is : (c : tie.After-level-in-range2) → c .before .level-in-range .result ≡ levelInRange (c .before .before .args .first)

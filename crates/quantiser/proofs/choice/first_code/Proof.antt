@@ -26,10 +26,10 @@ unfolding chosenG1
 returns c = simp (sym (steady-is (c .before)) ∙ c .if1 .taken)
 
 first-level-of-requires : tie.Need-first-level-of-requires
-first-level-of-requires c κs = search needs
+first-level-of-requires c κs = omega arith
 
 first-level-of-requires-2 : tie.Need-first-level-of-requires-2
-first-level-of-requires-2 c κs = search needs
+first-level-of-requires-2 c κs = omega arith
 
 -- the level of code 2 is one step above that of code 1
 step-is : (c : tie.After-first-level-of2) →
@@ -56,7 +56,7 @@ quantise-requires c κs =
     omega (arith, first-lowest (a .g2) (a .q), step-is (c .before))
 
 add-result : tie.Need-add-result
-add-result c = search needs
+add-result c = omega arith
 
 returns-2 : tie.Need-returns-2
 unfolding chosenG1

@@ -15,10 +15,10 @@ use Rattle.quantiser.proofs.choice.is_steady.Statement.{statement}
 use Rattle.quantiser.proofs.choice.is_steady.Tie as tie
 
 first-level-of-requires : tie.Need-first-level-of-requires
-first-level-of-requires c κs = search needs
+first-level-of-requires c κs = omega arith
 
 is-within-requires : tie.Need-is-within-requires
-is-within-requires c κs = search needs
+is-within-requires c κs = tt
 
 raised-requires : tie.Need-raised-requires
 raised-requires c κs = search needs
@@ -32,7 +32,7 @@ add-is-within : tie.Need-add-is-within
 add-is-within c = omega (arith, mean-is (c .before .before))
 
 is-within-requires-2 : tie.Need-is-within-requires-2
-is-within-requires-2 c κs = search needs
+is-within-requires-2 c κs = tt
 
 returns : tie.Need-returns
 returns c =

@@ -3,13 +3,12 @@ use mathlib.Core.Path.{_≡_, ap}
 use Prim.Native.Nat.{ℕ, _-_}
 use native.Mathlib.Omega.{arith}
 use lib.Dec.{leb}
-use borrow.Author.Needs.{needs}
 use Rattle.gain.specs.Levels.{apart}
 use Rattle.quantiser.proofs.choice.is_within.Statement.{statement}
 use Rattle.quantiser.proofs.choice.is_within.Tie as tie
 
 sub-result : tie.Need-sub-result
-sub-result c = search needs
+sub-result c = omega arith
 
 returns : tie.Need-returns
 returns c =

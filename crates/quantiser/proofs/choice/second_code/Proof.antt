@@ -12,7 +12,7 @@ use Rattle.quantiser.proofs.choice.second_code.Statement.{statement}
 use Rattle.quantiser.proofs.choice.second_code.Tie as tie
 
 add-quantise : tie.Need-add-quantise
-add-quantise c = search needs
+add-quantise c = omega arith
 
 raised-requires : tie.Need-raised-requires
 raised-requires c κs = search needs

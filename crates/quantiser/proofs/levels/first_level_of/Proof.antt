@@ -1,19 +1,19 @@
 -- `quantiser::levels::first_level_of` meets its contract: codes in range are not refused. Assumes nothing.
 use mathlib.Core.Path.{_≡_, sym, ap, _∙_}
-use borrow.Author.Needs.{needs}
+use native.Mathlib.Omega.{arith}
 use Rattle.gain.specs.Levels.{firstLevel, levelIn}
 use Rattle.gain.proofs.Answers.{first-level-in-is}
 use Rattle.quantiser.proofs.levels.first_level_of.Statement.{statement}
 use Rattle.quantiser.proofs.levels.first_level_of.Tie as tie
 
 first-level-requires : tie.Need-first-level-requires
-first-level-requires c κs = search needs
+first-level-requires c κs = tt
 
 enum-known-x : tie.Need-enum-known-x
-enum-known-x c = search needs
+enum-known-x c = omega arith
 
 enum-told : tie.Need-enum-told
-enum-told c = search needs
+enum-told c = omega arith
 
 -- the level in the call's answer is that of the codes
 answered : (c : tie.After-first-level) → levelIn (c .first-level .result) ≡ firstLevel (c .before .args .g2) (c .before .args .code) (c .before .args .q)

@@ -5,7 +5,6 @@ use Prim.Native.Nat.{ℕ, suc, _+_, _-_, _*_, _≤_, _<_}
 use native.Mathlib.Nat.{suc-mul, mul-le-mul-right}
 use native.Mathlib.Numerals.{add-one}
 use native.Mathlib.Omega.{arith}
-use borrow.Author.Needs.{needs}
 use Rattle.quantiser.specs.Choice.{nearest}
 use Rattle.quantiser.proofs.Thresholds.{index, index-up, index-stays}
 use Rattle.quantiser.proofs.uniform.quantise.Statement.{statement}
@@ -24,7 +23,7 @@ abbrev μ-loop : tie.MeasureT-loop
 
 loop-holds : tie.Need-loop-holds Inv-loop μ-loop
 unfolding nearest
-loop-holds c = search needs
+loop-holds c = omega arith
 
 -- the next level is in the type's range
 room : (c : tie.In-loop Inv-loop μ-loop) → c .before .loop .level + c .before .before .args .step ≤ 100000
@@ -33,7 +32,7 @@ room c =
     rw (c .before .loop .inv .1) (step-room (a .base) (a .step) (a .last) (c .before .loop .i) (omega arith) (c .loop-test .taken))
 
 mul-if1 : tie.Need-mul-if1 Inv-loop μ-loop
-mul-if1 c = search needs
+mul-if1 c = omega arith
 
 mul-if1-2 : tie.Need-mul-if1-2 Inv-loop μ-loop
 mul-if1-2 c = omega (arith, room c)
@@ -53,10 +52,10 @@ add-level : tie.Need-add-level Inv-loop μ-loop
 add-level c = omega (arith, room (c .before))
 
 add-i : tie.Need-add-i Inv-loop μ-loop
-add-i c = search needs
+add-i c = omega arith
 
 loop-less : tie.Need-loop-less Inv-loop μ-loop
-loop-less c = search needs
+loop-less c = omega arith
 
 loop-again : tie.Need-loop-again Inv-loop μ-loop
 loop-again c =

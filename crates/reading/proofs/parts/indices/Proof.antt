@@ -1,7 +1,6 @@
 -- `reading::parts::indices` meets its contract: the data are joined, and the other bits are parts. Assumes nothing.
 use Prim.Native.Nat.{_+_, _*_, _/_, _%_}
 use native.Mathlib.Omega.{arith}
-use borrow.Author.Needs.{needs}
 use Rattle.reading.proofs.parts.indices.Statement.{statement}
 use Rattle.reading.proofs.parts.indices.Tie as tie
 
@@ -12,13 +11,13 @@ add-t7 : tie.Need-add-t7
 add-t7 c = omega arith
 
 part-requires : tie.Need-part-requires
-part-requires c κs = search needs
+part-requires c κs = omega arith
 
 part-requires-2 : tie.Need-part-requires-2
-part-requires-2 c κs = search needs
+part-requires-2 c κs = omega arith
 
 part-requires-3 : tie.Need-part-requires-3
-part-requires-3 c κs = search needs
+part-requires-3 c κs = omega arith
 
 mul-t11 : tie.Need-mul-t11
 mul-t11 c = omega arith

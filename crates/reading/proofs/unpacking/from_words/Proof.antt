@@ -6,7 +6,7 @@ use Prim.Native.Nat.{ℕ}
 use Rattle.bits.specs.Bits.{carried}
 use Rattle.reading.specs.Reading.{fromWords}
 use Rattle.reading.proofs.Outcomes.{Bounds, outcomes-bounds, outcomes-read}
-use borrow.Author.Needs.{needs}
+use native.Mathlib.Omega.{arith}
 use Rattle.reading.proofs.unpacking.from_words.Statement.{statement}
 use Rattle.reading.proofs.unpacking.from_words.Tie as tie
 
@@ -35,10 +35,10 @@ module _ (c : tie.After-d) where
       (word-a .a .given .1) (word-b .b .given .1) (word-c .c .given .1) (c .d .given .1) (start .pre)
 
 enum-known-a : tie.Need-enum-known-a
-enum-known-a c = search needs
+enum-known-a c = omega arith
 
 enum-told : tie.Need-enum-told
-enum-told c = search needs
+enum-told c = omega arith
 
 returns : tie.Need-returns
 returns c i =
@@ -46,10 +46,10 @@ returns c i =
     fromWords (bit s) (sym (c .enum-told .given .1) i) (s .args .b) (s .args .c) (s .args .d)
 
 enum-known-b : tie.Need-enum-known-b
-enum-known-b c = search needs
+enum-known-b c = omega arith
 
 enum-told-2 : tie.Need-enum-told-2
-enum-told-2 c = search needs
+enum-told-2 c = omega arith
 
 returns-2 : tie.Need-returns-2
 returns-2 c i =
@@ -58,10 +58,10 @@ returns-2 c i =
     fromWords (bit s) (sym (a .a .given .1) i) (sym (c .enum-told2 .given .1) i) (s .args .c) (s .args .d)
 
 enum-known-c : tie.Need-enum-known-c
-enum-known-c c = search needs
+enum-known-c c = omega arith
 
 enum-told-3 : tie.Need-enum-told-3
-enum-told-3 c = search needs
+enum-told-3 c = omega arith
 
 returns-3 : tie.Need-returns-3
 returns-3 c i =
@@ -71,10 +71,10 @@ returns-3 c i =
     fromWords (bit s) (sym (a .a .given .1) i) (sym (b .b .given .1) i) (sym (c .enum-told3 .given .1) i) (s .args .d)
 
 enum-known-d : tie.Need-enum-known-d
-enum-known-d c = search needs
+enum-known-d c = omega arith
 
 enum-told-4 : tie.Need-enum-told-4
-enum-told-4 c = search needs
+enum-told-4 c = omega arith
 
 returns-4 : tie.Need-returns-4
 returns-4 c i =

@@ -6,30 +6,30 @@ use Rattle.pitch.specs.declared.PitchClass.{PitchClass}
 use Rattle.bits.specs.Bits.{carried}
 use Rattle.reading.specs.Reading.{byClass, read}
 use Rattle.reading.proofs.Shifts.{bits-back}
-use borrow.Author.Needs.{needs}
+use native.Mathlib.Omega.{arith}
 use Rattle.reading.proofs.unpacking.read.Statement.{statement}
 use Rattle.reading.proofs.unpacking.read.Tie as tie
 
 part-requires : tie.Need-part-requires
-part-requires c κs = search needs
+part-requires c κs = omega arith
 
 class-of-requires : tie.Need-class-of-requires
-class-of-requires c κs = search needs
+class-of-requires c κs = omega arith
 
 enum-told : tie.Need-enum-told
-enum-told c = search needs
+enum-told c = omega arith
 
 unvoiced-requires : tie.Need-unvoiced-requires
-unvoiced-requires c κs = search needs
+unvoiced-requires c κs = tt
 
 enum-told-2 : tie.Need-enum-told-2
-enum-told-2 c = search needs
+enum-told-2 c = omega arith
 
 enum-known-class : tie.Need-enum-known-class
-enum-known-class c = search needs
+enum-known-class c = omega arith
 
 voiced-requires : tie.Need-voiced-requires
-voiced-requires c κs = search needs
+voiced-requires c κs = tt
 
 abbrev given : tie.After-class-of → ℕ
 given c = c .before .before .args .bits

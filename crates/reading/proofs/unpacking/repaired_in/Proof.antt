@@ -5,7 +5,6 @@ use native.Mathlib.Omega.{arith}
 use Rattle.bits.specs.Bits.{carried}
 use Rattle.reading.specs.Reading.{pitchRepaired}
 use Rattle.reading.proofs.Shifts.{bits-back}
-use borrow.Author.Needs.{needs}
 use Rattle.reading.proofs.unpacking.repaired_in.Statement.{statement}
 use Rattle.reading.proofs.unpacking.repaired_in.Tie as tie
 
@@ -13,7 +12,7 @@ part-requires : tie.Need-part-requires
 part-requires c κs = omega arith
 
 pitch-repaired-requires : tie.Need-pitch-repaired-requires
-pitch-repaired-requires c κs = search needs
+pitch-repaired-requires c κs = tt
 
 add-result : tie.Need-add-result
 add-result c = omega arith

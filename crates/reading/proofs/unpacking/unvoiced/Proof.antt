@@ -12,33 +12,33 @@ use Rattle.order.specs.Fields.{wordA, wordB, wordC, wordD}
 use Rattle.bits.specs.Bits.{carried}
 use Rattle.reading.specs.Reading.{fromWords}
 use Rattle.reading.proofs.Shifts.{bits-back}
-use borrow.Author.Needs.{needs}
+use native.Mathlib.Omega.{arith}
 use Rattle.reading.proofs.unpacking.unvoiced.Statement.{statement}
 use Rattle.reading.proofs.unpacking.unvoiced.Tie as tie
 
 part-requires : tie.Need-part-requires
-part-requires c κs = search needs
+part-requires c κs = omega arith
 
 decode-requires : tie.Need-decode-requires
-decode-requires c κs = search needs
+decode-requires c κs = tt
 
 part-requires-2 : tie.Need-part-requires-2
-part-requires-2 c κs = search needs
+part-requires-2 c κs = omega arith
 
 decode-requires-2 : tie.Need-decode-requires-2
-decode-requires-2 c κs = search needs
+decode-requires-2 c κs = tt
 
 part-requires-3 : tie.Need-part-requires-3
-part-requires-3 c κs = search needs
+part-requires-3 c κs = omega arith
 
 decode-requires-3 : tie.Need-decode-requires-3
-decode-requires-3 c κs = search needs
+decode-requires-3 c κs = tt
 
 part-requires-4 : tie.Need-part-requires-4
-part-requires-4 c κs = search needs
+part-requires-4 c κs = omega arith
 
 decode-requires-4 : tie.Need-decode-requires-4
-decode-requires-4 c κs = search needs
+decode-requires-4 c κs = tt
 
 -- the four calls, and that each gives what its word is read as
 module _ (at-d : tie.After-decode4) where

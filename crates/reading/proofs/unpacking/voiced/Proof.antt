@@ -6,27 +6,27 @@ use Rattle.sets.specs.declared.Indices.{Indices}
 use Rattle.sets.specs.declared.Voicing.{Voicing}
 use Rattle.sets.specs.declared.ParameterSet.the-variants.{Voiced}
 use Rattle.reading.specs.declared.Reading.the-variants.{Accepted}
-use borrow.Author.Needs.{needs}
+use native.Mathlib.Omega.{arith}
 use Rattle.reading.proofs.unpacking.voiced.Statement.{statement}
 use Rattle.reading.proofs.unpacking.voiced.Tie as tie
 
 part-requires : tie.Need-part-requires
-part-requires c κs = search needs
+part-requires c κs = omega arith
 
 part-requires-2 : tie.Need-part-requires-2
-part-requires-2 c κs = search needs
+part-requires-2 c κs = omega arith
 
 part-requires-3 : tie.Need-part-requires-3
-part-requires-3 c κs = search needs
+part-requires-3 c κs = omega arith
 
 part-requires-4 : tie.Need-part-requires-4
-part-requires-4 c κs = search needs
+part-requires-4 c κs = omega arith
 
 indices-requires : tie.Need-indices-requires
-indices-requires c κs = search needs
+indices-requires c κs = omega arith
 
 voicing-requires : tie.Need-voicing-requires
-voicing-requires c κs = search needs
+voicing-requires c κs = tt
 
 returns : tie.Need-returns
 returns c =

@@ -1,17 +1,16 @@
 -- `receiver::levels::first_level_of` meets its contract: codes in range are not refused. Assumes nothing.
 use mathlib.Core.Path.{ap, _∙_}
 use native.Mathlib.Omega.{arith}
-use borrow.Author.Needs.{needs}
 use Rattle.gain.specs.Levels.{levelIn}
 use Rattle.gain.proofs.Answers.{first-level-in-is}
 use Rattle.receiver.proofs.levels.first_level_of.Statement.{statement}
 use Rattle.receiver.proofs.levels.first_level_of.Tie as tie
 
 first-level-requires : tie.Need-first-level-requires
-first-level-requires c κs = search needs
+first-level-requires c κs = tt
 
 level-in-requires : tie.Need-level-in-requires
-level-in-requires c κs = search needs
+level-in-requires c κs = tt
 
 returns : tie.Need-returns
 returns c =

@@ -1,17 +1,16 @@
 -- `receiver::levels::level_of` meets its contract: a code in range is not refused. Assumes nothing.
 use mathlib.Core.Path.{ap, _∙_}
 use native.Mathlib.Omega.{arith}
-use borrow.Author.Needs.{needs}
 use Rattle.gain.specs.Levels.{levelIn}
 use Rattle.gain.proofs.Answers.{level-in-is}
 use Rattle.receiver.proofs.levels.level_of.Statement.{statement}
 use Rattle.receiver.proofs.levels.level_of.Tie as tie
 
 level-requires : tie.Need-level-requires
-level-requires c κs = search needs
+level-requires c κs = tt
 
 level-in-requires : tie.Need-level-in-requires
-level-in-requires c κs = search needs
+level-in-requires c κs = tt
 
 returns : tie.Need-returns
 returns c =

@@ -2,7 +2,7 @@
 use mathlib.Core.Path.{sym, ap, _∙_}
 use lib.Dec.{eqb}
 use Prim.Native.Nat.{_%_}
-use borrow.Author.Needs.{needs}
+use native.Mathlib.Omega.{arith}
 use Rattle.bits.proofs.Tests.{true-T}
 use Rattle.reading.specs.Reading.{readingFits}
 use Rattle.reading.proofs.Ranges.{read-fits}
@@ -12,22 +12,22 @@ use Rattle.receiver.proofs.receiving.receive.Statement.{statement}
 use Rattle.receiver.proofs.receiving.receive.Tie as tie
 
 logical-bits-requires : tie.Need-logical-bits-requires
-logical-bits-requires c κs = search needs
+logical-bits-requires c κs = tt
 
 enum-known-n : tie.Need-enum-known-n
-enum-known-n c = search needs
+enum-known-n c = omega arith
 
 refuse-requires : tie.Need-refuse-requires
-refuse-requires c κs = search needs
+refuse-requires c κs = tt
 
 enum-known-bits : tie.Need-enum-known-bits
-enum-known-bits c = search needs
+enum-known-bits c = omega arith
 
 is-valid-requires : tie.Need-is-valid-requires
-is-valid-requires c κs = search needs
+is-valid-requires c κs = tt
 
 read-requires : tie.Need-read-requires
-read-requires c κs = search needs
+read-requires c κs = tt
 
 step-requires : tie.Need-step-requires
 step-requires c κs =
@@ -35,7 +35,7 @@ step-requires c κs =
     (sym (fits .is-valid .ensures) ∙ c .before .if1 .taken, ap readingFits (c .read .ensures) ∙ true-T _ (read-fits _))
 
 refuse-requires-2 : tie.Need-refuse-requires-2
-refuse-requires-2 c κs = search needs
+refuse-requires-2 c κs = tt
 
 returns : tie.Need-returns
 returns c =

@@ -1,7 +1,6 @@
 -- `receiver::steps::accept` meets its contract: each part of the result is what its call ensures. Assumes nothing.
 use mathlib.Core.Path.{subst⁻¹}
 use native.Mathlib.Omega.{arith}
-use borrow.Author.Needs.{needs}
 use Rattle.bits.proofs.Tests.{T-true}
 use Rattle.sets.proofs.Ranges.{IndexRanges, set-ranges}
 use Rattle.records.proofs.Validity.{valid-g2}
@@ -10,13 +9,13 @@ use Rattle.receiver.proofs.steps.accept.Statement.{statement}
 use Rattle.receiver.proofs.steps.accept.Tie as tie
 
 indices-of-requires : tie.Need-indices-of-requires
-indices-of-requires c κs = search needs
+indices-of-requires c κs = tt
 
 after-accepted-requires : tie.Need-after-accepted-requires
-after-accepted-requires c κs = search needs
+after-accepted-requires c κs = tt
 
 kind-of-requires : tie.Need-kind-of-requires
-kind-of-requires c κs = search needs
+kind-of-requires c κs = tt
 
 -- the set's indices are in their ranges
 ranges : (c : tie.After-indices-of) → IndexRanges (c .indices-of .result)
@@ -33,7 +32,7 @@ level-of-requires : tie.Need-level-of-requires
 level-of-requires c κs = ranges (c .before .before .before .before) .g2
 
 is-muted-requires : tie.Need-is-muted-requires
-is-muted-requires c κs = search needs
+is-muted-requires c κs = tt
 
 returns : tie.Need-returns
 unfolding accepted

@@ -1,15 +1,15 @@
 -- `receiver::steps::kind_of` meets its contract: each arm names its kind. Assumes nothing.
 use mathlib.Core.Path.{sym, ap}
-use borrow.Author.Needs.{needs}
+use native.Mathlib.Omega.{arith}
 use Rattle.receiver.specs.Steps.{kindOf}
 use Rattle.receiver.proofs.steps.kind_of.Statement.{statement}
 use Rattle.receiver.proofs.steps.kind_of.Tie as tie
 
 enum-told : tie.Need-enum-told
-enum-told c = search needs
+enum-told c = omega arith
 
 enum-told-2 : tie.Need-enum-told-2
-enum-told-2 c = search needs
+enum-told-2 c = omega arith
 
 returns : tie.Need-returns
 returns c = ap kindOf (sym (c .enum-told .given .1))

@@ -1,5 +1,4 @@
 -- `receiver::steps::repeat` meets its contract: each part of the result is what its call ensures. Assumes nothing.
-use borrow.Author.Needs.{needs}
 use Rattle.bits.proofs.Tests.{T-true}
 use Rattle.records.proofs.Validity.{valid-g2}
 use Rattle.receiver.specs.Steps.{repeated}
@@ -10,10 +9,10 @@ level-of-requires : tie.Need-level-of-requires
 level-of-requires c κs = valid-g2 (c .args .rec) (T-true _ (c .pre))
 
 after-repeat-requires : tie.Need-after-repeat-requires
-after-repeat-requires c κs = search needs
+after-repeat-requires c κs = tt
 
 is-muted-requires : tie.Need-is-muted-requires
-is-muted-requires c κs = search needs
+is-muted-requires c κs = tt
 
 returns : tie.Need-returns
 unfolding repeated

@@ -1,18 +1,19 @@
 -- `receiver::steps::step` meets its contract: each arm is what its call ensures. Assumes nothing.
 use mathlib.Core.Path.{sym, ap, _∙_}
+use native.Mathlib.Omega.{arith}
 use borrow.Author.Needs.{needs}
 use Rattle.receiver.specs.Steps.{step}
 use Rattle.receiver.proofs.steps.step.Statement.{statement}
 use Rattle.receiver.proofs.steps.step.Tie as tie
 
 enum-known-reading : tie.Need-enum-known-reading
-enum-known-reading c = search needs
+enum-known-reading c = omega arith
 
 accept-requires : tie.Need-accept-requires
 accept-requires c κs = search needs
 
 enum-told : tie.Need-enum-told
-enum-told c = search needs
+enum-told c = omega arith
 
 repeat-requires : tie.Need-repeat-requires
 repeat-requires c κs = search needs

@@ -1,13 +1,12 @@
 -- `records::next::after_accepted` meets its contract: each field is what its call ensures. Assumes nothing.
-use borrow.Author.Needs.{needs}
 use Rattle.records.proofs.next.after_accepted.Statement.{statement}
 use Rattle.records.proofs.next.after_accepted.Tie as tie
 
 indices-of-requires : tie.Need-indices-of-requires
-indices-of-requires c κs = search needs
+indices-of-requires c κs = tt
 
 push-requires : tie.Need-push-requires
-push-requires c κs = search needs
+push-requires c κs = tt
 
 returns : tie.Need-returns
 returns c = simp (c .push .ensures, c .before .indices-of .ensures)

@@ -1,10 +1,9 @@
 -- `records::next::after_repeat` meets its contract: the kinds are what the call ensures. Assumes nothing.
-use borrow.Author.Needs.{needs}
 use Rattle.records.proofs.next.after_repeat.Statement.{statement}
 use Rattle.records.proofs.next.after_repeat.Tie as tie
 
 push-requires : tie.Need-push-requires
-push-requires c κs = search needs
+push-requires c κs = tt
 
 returns : tie.Need-returns
 returns c = simp (c .push .ensures)

@@ -2,37 +2,36 @@
 use Prim.Native.Nat.{suc, _*_, _≤_}
 use native.Mathlib.Omega.{arith}
 use lib.ListN.{length}
-use borrow.Author.Needs.{needs}
 use Rattle.send.proofs.Answers.{form-owes, pack-owes}
 use Rattle.send.proofs.frames.pack_set.Statement.{statement}
 use Rattle.send.proofs.frames.pack_set.Tie as tie
 
 mul-read : tie.Need-mul-read
-mul-read c = search needs
+mul-read c = omega arith
 
 mul-read-2 : tie.Need-mul-read-2
-mul-read-2 c = search needs
+mul-read-2 c = omega arith
 
 add-read : tie.Need-add-read
-add-read c = search needs
+add-read c = omega arith
 
 sub-read : tie.Need-sub-read
-sub-read c = search needs
+sub-read c = omega arith
 
 part-read-start : tie.Need-part-read-start
-part-read-start c = search needs
+part-read-start c = omega arith
 
 part-read-end : tie.Need-part-read-end
-part-read-end c = search needs
+part-read-end c = omega arith
 
 read-requires : tie.Need-read-requires
-read-requires c κs = search needs
+read-requires c κs = tt
 
 enum-known-answer : tie.Need-enum-known-answer
-enum-known-answer c = search needs
+enum-known-answer c = omega arith
 
 enum-told : tie.Need-enum-told
-enum-told c = search needs
+enum-told c = omega arith
 
 returns : tie.Need-returns
 returns c =
@@ -41,22 +40,22 @@ returns c =
     form-owes (a .bytes .now) (a .sync) (a .k) (a .out .now) _ (read .read .ensures) _ (c .enum-told .given .1)
 
 mul-pack : tie.Need-mul-pack
-mul-pack c = search needs
+mul-pack c = omega arith
 
 sub-pack : tie.Need-sub-pack
-sub-pack c = search needs
+sub-pack c = omega arith
 
 part-pack-start : tie.Need-part-pack-start
-part-pack-start c = search needs
+part-pack-start c = omega arith
 
 part-pack-end : tie.Need-part-pack-end
-part-pack-end c = search needs
+part-pack-end c = omega arith
 
 pack-requires : tie.Need-pack-requires
-pack-requires c κs = search needs
+pack-requires c κs = tt
 
 same-length : tie.Need-same-length
-same-length c = search needs
+same-length c = omega arith
 
 returns-2 : tie.Need-returns-2
 returns-2 c =

@@ -5,7 +5,6 @@ use Prim.Native.Nat.{ℕ, _*_, _-_, _≤_}
 use native.Mathlib.Numerals.{add-one}
 use native.Mathlib.Omega.{arith}
 use lib.ListN.{length}
-use borrow.Author.Needs.{needs}
 use Rattle.send.specs.Sending.{setsIn, sentFrom, sent}
 use Rattle.send.proofs.Turns.{SoFar, last-owes, packed-owes, refused-owes}
 use Rattle.send.proofs.frames.pack_sets.Statement.{statement}
@@ -18,7 +17,7 @@ abbrev μ-loop : tie.MeasureT-loop
 μ-loop bytes out₀ sync₀ count k₀ out sync k = count - k
 
 fresh-sync-requires : tie.Need-fresh-sync-requires Inv-loop μ-loop
-fresh-sync-requires c κs = search needs
+fresh-sync-requires c κs = tt
 
 loop-holds : tie.Need-loop-holds Inv-loop μ-loop
 unfolding sent
@@ -29,19 +28,19 @@ loop-holds c =
     (refl, omega arith, s .pre, (refl, ap₂ (λ (b : Bool) (m : ℕ). sentFrom bytes b 0 m) (c .fresh-sync .ensures) n, refl))
 
 pack-set-requires : tie.Need-pack-set-requires Inv-loop μ-loop
-pack-set-requires c κs = search needs
+pack-set-requires c κs = omega arith
 
 enum-known-answer : tie.Need-enum-known-answer Inv-loop μ-loop
-enum-known-answer c = search needs
+enum-known-answer c = omega arith
 
 enum-told : tie.Need-enum-told Inv-loop μ-loop
-enum-told c = search needs
+enum-told c = omega arith
 
 mul-result : tie.Need-mul-result Inv-loop μ-loop
-mul-result c = search needs
+mul-result c = omega arith
 
 same-length : tie.Need-same-length Inv-loop μ-loop
-same-length c = search needs
+same-length c = omega arith
 
 returns : tie.Need-returns Inv-loop μ-loop
 returns c =
@@ -54,10 +53,10 @@ returns c =
     (packed .pack-set .ensures) _ (c .enum-told .given .1)
 
 add-k : tie.Need-add-k Inv-loop μ-loop
-add-k c = search needs
+add-k c = omega arith
 
 loop-less : tie.Need-loop-less Inv-loop μ-loop
-loop-less c = search needs
+loop-less c = omega arith
 
 loop-again : tie.Need-loop-again Inv-loop μ-loop
 loop-again c =
@@ -71,10 +70,10 @@ loop-again c =
     rw add-one (L .inv .0, omega arith, L .inv .2, more)
 
 mul-result-2 : tie.Need-mul-result-2 Inv-loop μ-loop
-mul-result-2 c = search needs
+mul-result-2 c = omega arith
 
 same-length-2 : tie.Need-same-length-2 Inv-loop μ-loop
-same-length-2 c = search needs
+same-length-2 c = omega arith
 
 returns-2 : tie.Need-returns-2 Inv-loop μ-loop
 returns-2 c =

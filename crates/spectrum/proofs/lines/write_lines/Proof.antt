@@ -32,22 +32,22 @@ unfolding lines
 loop-holds c = (omega arith, search needs, refl, omega arith, appended-none (c .before .args .out .now) (c .before .args .at))
 
 mul-value-line : tie.Need-mul-value-line Inv-loop μ-loop
-mul-value-line c = search needs
+mul-value-line c = omega arith
 
 array-copy-out-value-line : tie.Need-array-copy-out-value-line Inv-loop μ-loop
-array-copy-out-value-line c = search needs
+array-copy-out-value-line c = omega arith
 
 value-line-requires : tie.Need-value-line-requires Inv-loop μ-loop
-value-line-requires c κs = search needs
+value-line-requires c κs = tt
 
 end-of-requires : tie.Need-end-of-requires Inv-loop μ-loop
-end-of-requires c κs = search needs
+end-of-requires c κs = tt
 
 add-i : tie.Need-add-i Inv-loop μ-loop
-add-i c = search needs
+add-i c = omega arith
 
 loop-less : tie.Need-loop-less Inv-loop μ-loop
-loop-less c = search needs
+loop-less c = omega arith
 
 loop-again : tie.Need-loop-again Inv-loop μ-loop
 loop-again c =
@@ -63,7 +63,7 @@ loop-again c =
     (omega arith, L .inv .1, search needs, omega (arith, q .1), rw m (appended-append _ _ _ _ _ _ _ _ (L .inv .4) e))
 
 same-length : tie.Need-same-length Inv-loop μ-loop
-same-length c = search needs
+same-length c = omega arith
 
 returns : tie.Need-returns Inv-loop μ-loop
 returns c =

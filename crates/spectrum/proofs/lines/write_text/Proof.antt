@@ -1,7 +1,6 @@
 -- `spectrum::lines::write_text` meets its contract: a refusal, or the lines of both kinds of values one after the other. Assumes nothing.
 use mathlib.Core.Path.{_∙_}
 use native.Mathlib.Omega.{arith}
-use borrow.Author.Needs.{needs}
 use Rattle.spectrum.specs.Lines.{lines}
 use Rattle.value_lines.specs.Lines.{refusalLine}
 use Rattle.text.proofs.Puts.{appended-append}
@@ -11,10 +10,10 @@ use Rattle.spectrum.proofs.lines.write_text.Statement.{statement}
 use Rattle.spectrum.proofs.lines.write_text.Tie as tie
 
 refusal-line-requires : tie.Need-refusal-line-requires
-refusal-line-requires c κs = search needs
+refusal-line-requires c κs = tt
 
 end-of-requires : tie.Need-end-of-requires
-end-of-requires c κs = search needs
+end-of-requires c κs = tt
 
 returns : tie.Need-returns
 returns c =
@@ -28,10 +27,10 @@ returns c =
     )
 
 write-lines-requires : tie.Need-write-lines-requires
-write-lines-requires c κs = search needs
+write-lines-requires c κs = omega arith
 
 write-lines-requires-2 : tie.Need-write-lines-requires-2
-write-lines-requires-2 c κs = search needs
+write-lines-requires-2 c κs = omega arith
 
 returns-2 : tie.Need-returns-2
 returns-2 c =

@@ -11,19 +11,19 @@ use Rattle.spectrum.proofs.printing.write_printed.Statement.{statement}
 use Rattle.spectrum.proofs.printing.write_printed.Tie as tie
 
 front-requires : tie.Need-front-requires
-front-requires c κs = search needs
+front-requires c κs = omega arith
 
 front-requires-2 : tie.Need-front-requires-2
-front-requires-2 c κs = search needs
+front-requires-2 c κs = omega arith
 
 front-requires-3 : tie.Need-front-requires-3
-front-requires-3 c κs = search needs
+front-requires-3 c κs = omega arith
 
 of-frame-requires : tie.Need-of-frame-requires
-of-frame-requires c κs = search needs
+of-frame-requires c κs = tt
 
 write-text-requires : tie.Need-write-text-requires
-write-text-requires c κs = search needs
+write-text-requires c κs = tt
 
 returns : tie.Need-returns
 returns c =

@@ -1,29 +1,29 @@
 -- `spectrum::values::of_codebooks` meets its contract: both calls are made, and the first refusal counts. Assumes nothing.
-use borrow.Author.Needs.{needs}
+use native.Mathlib.Omega.{arith}
 use Rattle.spectrum.proofs.Answers.{codebooks-owe}
 use Rattle.spectrum.proofs.values.of_codebooks.Statement.{statement}
 use Rattle.spectrum.proofs.values.of_codebooks.Tie as tie
 
 slice-aggregate-lsf-values : tie.Need-slice-aggregate-lsf-values
-slice-aggregate-lsf-values c = search needs
+slice-aggregate-lsf-values c = omega arith
 
 lsf-values-requires : tie.Need-lsf-values-requires
-lsf-values-requires c κs = search needs
+lsf-values-requires c κs = tt
 
 values-refusal-requires : tie.Need-values-refusal-requires
-values-refusal-requires c κs = search needs
+values-refusal-requires c κs = tt
 
 slice-aggregate-magnitudes : tie.Need-slice-aggregate-magnitudes
-slice-aggregate-magnitudes c = search needs
+slice-aggregate-magnitudes c = omega arith
 
 magnitudes-requires : tie.Need-magnitudes-requires
-magnitudes-requires c κs = search needs
+magnitudes-requires c κs = tt
 
 values-refusal-requires-2 : tie.Need-values-refusal-requires-2
-values-refusal-requires-2 c κs = search needs
+values-refusal-requires-2 c κs = tt
 
 first-refusal-requires : tie.Need-first-refusal-requires
-first-refusal-requires c κs = search needs
+first-refusal-requires c κs = tt
 
 returns : tie.Need-returns
 returns c =

@@ -1,6 +1,6 @@
 -- `spectrum::values::of_frame` meets its contract, by what the receiver answers. Assumes nothing.
 use mathlib.Core.Path.{_≡_, sym, ap, _∙_}
-use borrow.Author.Needs.{needs}
+use native.Mathlib.Omega.{arith}
 use Rattle.order.specs.Order.{defaultOrder}
 use Rattle.records.specs.Records.{fresh}
 use Rattle.receiver.specs.Receiving.{receive}
@@ -12,22 +12,22 @@ use Rattle.spectrum.proofs.values.of_frame.Statement.{statement}
 use Rattle.spectrum.proofs.values.of_frame.Tie as tie
 
 fresh-requires : tie.Need-fresh-requires
-fresh-requires c κs = search needs
+fresh-requires c κs = tt
 
 receive-requires : tie.Need-receive-requires
-receive-requires c κs = search needs
+receive-requires c κs = tt
 
 enum-known-answer : tie.Need-enum-known-answer
-enum-known-answer c = search needs
+enum-known-answer c = omega arith
 
 refused-requires : tie.Need-refused-requires
-refused-requires c κs = search needs
+refused-requires c κs = tt
 
 enum-known-answer-2 : tie.Need-enum-known-answer-2
-enum-known-answer-2 c = search needs
+enum-known-answer-2 c = omega arith
 
 of-texts-requires : tie.Need-of-texts-requires
-of-texts-requires c κs = search needs
+of-texts-requires c κs = tt
 
 -- what the receiver answers is what the definition has
 answered : (c : tie.After-receive) → c .receive .result .answer ≡ receive defaultOrder fresh (c .before .before .before .before .before .args .bytes .now) .answer

@@ -2,35 +2,35 @@
 use mathlib.Core.Path.{_∙_}
 use lib.IntN.{pos}
 use lib.ListN.{replicate, length-replicate}
-use borrow.Author.Needs.{needs}
+use native.Mathlib.Omega.{arith}
 use Rattle.spectrum.specs.Values.{ofCodebooks}
 use Rattle.spectrum.proofs.Answers.{refusal-owes, texts-owe}
 use Rattle.spectrum.proofs.values.of_texts.Statement.{statement}
 use Rattle.spectrum.proofs.values.of_texts.Tie as tie
 
 slice-aggregate-read-lsf : tie.Need-slice-aggregate-read-lsf
-slice-aggregate-read-lsf c = search needs
+slice-aggregate-read-lsf c = omega arith
 
 read-lsf-requires : tie.Need-read-lsf-requires
-read-lsf-requires c κs = search needs
+read-lsf-requires c κs = tt
 
 text-refusal-requires : tie.Need-text-refusal-requires
-text-refusal-requires c κs = search needs
+text-refusal-requires c κs = tt
 
 slice-aggregate-read-magnitudes : tie.Need-slice-aggregate-read-magnitudes
-slice-aggregate-read-magnitudes c = search needs
+slice-aggregate-read-magnitudes c = omega arith
 
 read-magnitudes-requires : tie.Need-read-magnitudes-requires
-read-magnitudes-requires c κs = search needs
+read-magnitudes-requires c κs = tt
 
 text-refusal-requires-2 : tie.Need-text-refusal-requires-2
-text-refusal-requires-2 c κs = search needs
+text-refusal-requires-2 c κs = tt
 
 first-refusal-requires : tie.Need-first-refusal-requires
-first-refusal-requires c κs = search needs
+first-refusal-requires c κs = tt
 
 refused-requires : tie.Need-refused-requires
-refused-requires c κs = search needs
+refused-requires c κs = tt
 
 returns : tie.Need-returns
 returns c =
@@ -45,13 +45,13 @@ returns c =
     (third .read-magnitudes .ensures .0) (second .text-refusal2 .ensures) (n .first-refusal .ensures) (c .before .if1 .taken)
 
 slice-aggregate-of-codebooks : tie.Need-slice-aggregate-of-codebooks
-slice-aggregate-of-codebooks c = search needs
+slice-aggregate-of-codebooks c = omega arith
 
 slice-aggregate-of-codebooks-2 : tie.Need-slice-aggregate-of-codebooks-2
-slice-aggregate-of-codebooks-2 c = search needs
+slice-aggregate-of-codebooks-2 c = omega arith
 
 of-codebooks-requires : tie.Need-of-codebooks-requires
-of-codebooks-requires c κs = search needs
+of-codebooks-requires c κs = tt
 
 returns-2 : tie.Need-returns-2
 returns-2 c =

@@ -17,31 +17,31 @@ loop-holds : tie.Need-loop-holds Inv-loop μ-loop
 loop-holds c = (omega arith, refl)
 
 signed-requires : tie.Need-signed-requires Inv-loop μ-loop
-signed-requires c κs = search needs
+signed-requires c κs = tt
 
 mul-codebook : tie.Need-mul-codebook Inv-loop μ-loop
-mul-codebook c = search needs
+mul-codebook c = omega arith
 
 array-set-from-codebook : tie.Need-array-set-from-codebook Inv-loop μ-loop
-array-set-from-codebook c = search needs
+array-set-from-codebook c = omega arith
 
 added-requires : tie.Need-added-requires Inv-loop μ-loop
-added-requires c κs = search needs
+added-requires c κs = tt
 
 wrapping-add-usize-requires : tie.Need-wrapping-add-usize-requires Inv-loop μ-loop
-wrapping-add-usize-requires c κs = search needs
+wrapping-add-usize-requires c κs = tt
 
 add-i : tie.Need-add-i Inv-loop μ-loop
-add-i c = search needs
+add-i c = omega arith
 
 loop-less : tie.Need-loop-less Inv-loop μ-loop
-loop-less c = search needs
+loop-less c = omega arith
 
 loop-again : tie.Need-loop-again Inv-loop μ-loop
 loop-again c = search needs
 
 returns : tie.Need-returns Inv-loop μ-loop
-returns c = search needs
+returns c = tt
 
 pub ruled-spec : {M : Type 1} → statement M
 ruled-spec =

@@ -2,7 +2,7 @@
 use mathlib.Core.Path.{_≡_}
 use Prim.Native.Nat.{_≤_, _-_}
 use lib.ListN.{length}
-use borrow.Author.Needs.{needs}
+use native.Mathlib.Omega.{arith}
 use Rattle.vectors.proofs.vector.bytes_agree.Statement.{statement}
 use Rattle.vectors.proofs.vector.bytes_agree.Tie as tie
 
@@ -13,28 +13,28 @@ abbrev μ-loop : tie.MeasureT-loop
 μ-loop r start bytes same₀ k₀ k-end same k = k-end - k
 
 loop-holds : tie.Need-loop-holds Inv-loop μ-loop
-loop-holds c = search needs
+loop-holds c = omega arith
 
 add-same : tie.Need-add-same Inv-loop μ-loop
-add-same c = search needs
+add-same c = omega arith
 
 element-copy-out-same : tie.Need-element-copy-out-same Inv-loop μ-loop
-element-copy-out-same c = search needs
+element-copy-out-same c = omega arith
 
 shared-slice-read-same : tie.Need-shared-slice-read-same Inv-loop μ-loop
-shared-slice-read-same c = search needs
+shared-slice-read-same c = omega arith
 
 add-k : tie.Need-add-k Inv-loop μ-loop
-add-k c = search needs
+add-k c = omega arith
 
 loop-less : tie.Need-loop-less Inv-loop μ-loop
-loop-less c = search needs
+loop-less c = omega arith
 
 loop-again : tie.Need-loop-again Inv-loop μ-loop
-loop-again c = search needs
+loop-again c = omega arith
 
 returns : tie.Need-returns Inv-loop μ-loop
-returns c = search needs
+returns c = tt
 
 pub bytes-agree-spec : {M : Type 1} → statement M
 bytes-agree-spec =

@@ -5,21 +5,20 @@ use lib.IntN.{pos, negsuc, _-ℤ_}
 use mir.Syntax.{w64}
 use mir.Val.{SFits}
 use mir.ValLaws.{toZ-pos}
-use borrow.Author.Needs.{needs}
 use Rattle.vectors.proofs.vector.signed.Statement.{statement}
 use Rattle.vectors.proofs.vector.signed.Tie as tie
 
 cast-result : tie.Need-cast-result
-cast-result c = search needs
+cast-result c = omega arith
 
 returns : tie.Need-returns
-returns c = search needs
+returns c = tt
 
 sub-result : tie.Need-sub-result
-sub-result c = search needs
+sub-result c = omega arith
 
 cast-result-2 : tie.Need-cast-result-2
-cast-result-2 c = search needs
+cast-result-2 c = omega arith
 
 below : (y : ℕ) → y < 2 ^ 63 → SFits w64 (negsuc 0 -ℤ pos y)
 below zero h = record { sfits = omega arith }
@@ -32,7 +31,7 @@ sub-result-2 c =
     rw (toZ-pos w64 (18446744073709551615 - x) h) (below (18446744073709551615 - x) h)
 
 returns-2 : tie.Need-returns-2
-returns-2 c = search needs
+returns-2 c = tt
 
 pub signed-spec : {M : Type 1} → statement M
 signed-spec =
