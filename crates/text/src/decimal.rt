@@ -47,16 +47,16 @@ fn write_hundreds(n: u64, out: &mut [u8], at: usize) -> usize
     write_pair(n, out, end)
 }
 
-// A number of one byte.
-pub(crate) fn write_byte(n: u8, out: &mut [u8], at: usize) -> usize
-    requires { ⌜ at + length (decimal n) ≤ length (now out) ⌝ }
+// A number of up to four digits.
+pub(crate) fn write_short(n: u64, out: &mut [u8], at: usize) -> usize
+    requires { ⌜ (n < 10000) × (at + length (decimal n) ≤ length (now out)) ⌝ }
     ensures end { λ r. ⌜ r ≡ at + length (decimal n) ⌝ }
     ensures text { λ _. ⌜ now (out .exit) ≡ written (decimal n) at (now (out .entry)) ⌝ }
 {
     if n < 100 {
-        return write_small(n as u64, out, at);
+        return write_small(n, out, at);
     }
-    write_hundreds(n as u64, out, at)
+    write_hundreds(n, out, at)
 }
 
 // A number of three digits or more.
@@ -78,11 +78,8 @@ pub(crate) fn write_decimal(n: u64, out: &mut [u8], at: usize) -> usize
     ensures end { λ r. ⌜ r ≡ at + length (decimal n) ⌝ }
     ensures text { λ _. ⌜ now (out .exit) ≡ written (decimal n) at (now (out .entry)) ⌝ }
 {
-    if n < 100 {
-        return write_small(n, out, at);
-    }
     if n < 10000 {
-        return write_hundreds(n, out, at);
+        return write_short(n, out, at);
     }
     if n < 1000000 {
         let end = write_hundreds(n / 100, out, at);

@@ -4,8 +4,8 @@ use crate::Name;
 use crate::bytes::append;
 use crate::bytes::is_too_short;
 use crate::bytes::place;
-use crate::decimal::write_byte;
 use crate::decimal::write_decimal;
+use crate::decimal::write_short;
 ghost use mathlib.Core.Path.{_≡_};
 ghost use Prim.Native.Nat.{_+_, _≤_};
 ghost use mathlib.Core.List.{_++_};
@@ -65,7 +65,7 @@ pub fn byte(name: Name, width: usize, n: u8, out: &mut [u8], at: usize) -> LineA
         return placed_number(name, end, n as u64, out, at);
     }
     let digits = write_name(name, end, out, at);
-    LineAnswer::Written(write_byte(n, out, digits))
+    LineAnswer::Written(write_short(n as u64, out, digits))
 }
 
 // A name, and a number after it, by way of a buffer of its own.

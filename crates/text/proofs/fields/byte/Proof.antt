@@ -55,20 +55,22 @@ room c = test-room _ _ _ _ (c .before .is-too-short .ensures) (c .if1 .left)
 write-name-requires : tie.Need-write-name-requires
 write-name-requires c κs = (fits (c .before .before .before), omega (arith, room (c .before)))
 
-write-byte-requires : tie.Need-write-byte-requires
-write-byte-requires c κs =
+write-short-requires : tie.Need-write-short-requires
+write-short-requires c κs =
     let n = c .before .before .before in
     let e = n .before .before in
     let w = e .before .before in
     let s = w .before .before in
-    let a = s .args in
-    text-room (a .name) (size s) (a .width) (w .within-name .result) (w .within-name .ensures) (decimal (a .n)) 3 (digits s) (a .out .now) (a .at)
-    (room e) _ _ (n .write-name .kept .1 .1 .0) (n .write-name .ensures .0)
+    let a = s .args in (
+      omega arith,
+      text-room (a .name) (size s) (a .width) (w .within-name .result) (w .within-name .ensures) (decimal (a .n)) 3 (digits s) (a .out .now) (a .at)
+          (room e) _ _ (n .write-name .kept .1 .1 .0) (n .write-name .ensures .0),
+    )
 
 same-length-2 : tie.Need-same-length-2
 same-length-2 c =
     let d = c .before .before in
-    d .write-byte .kept .1 .0 ∙ d .before .before .before .before .write-name .kept .1 .1 .0
+    d .write-short .kept .1 .0 ∙ d .before .before .before .before .write-name .kept .1 .1 .0
 
 returns-2 : tie.Need-returns-2
 returns-2 c =
@@ -79,7 +81,7 @@ returns-2 c =
     let s = w .before .before in
     let a = s .args in
     field-owes (a .name) (size s) (a .width) (w .within-name .result) (w .within-name .ensures) (decimal (a .n)) 3 (digits s) (a .out .now) (a .at)
-    (room e) _ _ _ _ (n .write-name .ensures) (d .write-byte .ensures)
+    (room e) _ _ _ _ (n .write-name .ensures) (d .write-short .ensures)
 
 pub byte-spec : {M : Type 1} → statement M
 byte-spec =
@@ -92,6 +94,6 @@ byte-spec =
     same-length
     returns
     write-name-requires
-    write-byte-requires
+    write-short-requires
     same-length-2
     returns-2)

@@ -1,7 +1,7 @@
--- `text::decimal::write_byte` meets its contract: each case has its digits. Assumes nothing.
+-- `text::decimal::write_short` meets its contract: each case has its digits. Assumes nothing.
 use native.Mathlib.Omega.{arith}
-use Rattle.text.proofs.decimal.write_byte.Statement.{statement}
-use Rattle.text.proofs.decimal.write_byte.Tie as tie
+use Rattle.text.proofs.decimal.write_short.Statement.{statement}
+use Rattle.text.proofs.decimal.write_short.Tie as tie
 
 write-small-requires : tie.Need-write-small-requires
 write-small-requires c κs = omega arith
@@ -21,5 +21,5 @@ same-length-2 c = c .before .before .write-hundreds .kept .1 .0
 returns-2 : tie.Need-returns-2
 returns-2 c = c .before .before .write-hundreds .ensures
 
-pub write-byte-spec : {M : Type 1} → statement M
-write-byte-spec = tie.close (tie.spec write-small-requires same-length returns write-hundreds-requires same-length-2 returns-2)
+pub write-short-spec : {M : Type 1} → statement M
+write-short-spec = tie.close (tie.spec write-small-requires same-length returns write-hundreds-requires same-length-2 returns-2)
