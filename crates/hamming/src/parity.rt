@@ -25,5 +25,5 @@ pub fn parity_of(length: WordLength, u: u8) -> u8
     }
 }
 
-// The four parity bits of each data.
+// The parity bits of every four data bits, by the number that these make.
 const PARITY: [u8; 16] = [0, 14, 7, 9, 11, 5, 12, 2, 13, 3, 10, 4, 6, 8, 1, 15];
