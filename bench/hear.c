@@ -2,8 +2,8 @@
    unless TUNED is set. */
 #include <string.h>
 
-#include "channel.h"
 #include "receive.h"
+#include "streams.h"
 
 enum { MOST_FRAMES = 9362, MOST_INPUT = MOST_FRAMES * FRAME_BYTES };
 

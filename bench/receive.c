@@ -1,7 +1,7 @@
 /* The program bench_receive in C: frames from standard input, and the sum of all that they are answered, in eight
    bytes, to standard output. Plain unless TUNED is set. */
-#include "channel.h"
 #include "receive.h"
+#include "streams.h"
 
 enum { MOST_INPUT = 9362 * FRAME_BYTES };
 

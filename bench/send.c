@@ -1,7 +1,7 @@
 /* The program send in C: sets from standard input, eleven bytes each, and their frames to standard output. A set
    that is refused ends them. Plain unless TUNED is set. */
-#include "channel.h"
 #include "pack.h"
+#include "streams.h"
 
 enum { MOST_INPUT = 65536, MOST_SETS = MOST_INPUT / SET_BYTES };
 

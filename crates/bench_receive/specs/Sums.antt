@@ -44,5 +44,5 @@ sumBefore bytes zero = 0
 sumBefore bytes (suc k) = sumBefore bytes k + answerSum (answerAt bytes k)
 
 -- a number in eight bytes, most significant first
-abbrev pub bytesOf : ℕ → List ℕ
-bytesOf n = cut (λ i. n / 256 ^ (7 - i) % 256) 0 8
+abbrev pub eightBytes : ℕ → List ℕ
+eightBytes n = cut (λ i. n / 256 ^ (7 - i) % 256) 0 8

@@ -6,7 +6,7 @@ ghost use Prim.Native.Nat.{suc, _+_, _*_, _≤_};
 ghost use lib.ListN.{length, take};
 ghost use Rattle.io.specs.Counts.{Counts};
 ghost use Rattle.receiver.specs.Frames.{framesIn, recordAfter, answerAt};
-ghost use Rattle.bench_receive.specs.Sums.{answerSum, sumBefore, bytesOf};
+ghost use Rattle.bench_receive.specs.Sums.{answerSum, sumBefore, eightBytes};
 
 // The receiver's record, and the sum so far.
 struct Total {
@@ -49,7 +49,7 @@ fn sum_of(bytes: &[u8]) -> u64
 
 // A number in eight bytes, most significant first.
 fn eight_bytes(n: u64) -> [u8; 8]
-    ensures { λ r. ⌜ r ≡ bytesOf n ⌝ }
+    ensures { λ r. ⌜ r ≡ eightBytes n ⌝ }
 {
     [
         (n / 0x100000000000000 % 256) as u8,
@@ -66,7 +66,7 @@ fn eight_bytes(n: u64) -> [u8; 8]
 // The sum in bytes, of the input of which the first `size` bytes of a buffer were read.
 pub(crate) fn sum_bytes(input: &[u8], size: usize) -> [u8; 8]
     requires { ⌜ (length (now input) ≡ 65534) × Counts size (now input) ⌝ }
-    ensures { λ r. ⌜ r ≡ bytesOf (sumBefore (take size (now (input .entry))) (framesIn (take size (now (input .entry))))) ⌝ }
+    ensures { λ r. ⌜ r ≡ eightBytes (sumBefore (take size (now (input .entry))) (framesIn (take size (now (input .entry))))) ⌝ }
 {
     eight_bytes(sum_of(&input[..size]))
 }

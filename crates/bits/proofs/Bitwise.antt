@@ -66,7 +66,7 @@ bit-and = bit-op bitAnd min _&&_ and-step (λ x y h k. omega arith) min-says
 pub bit-or : (k a b : ℕ) → bit k (bitOr a b) ≡ (bit k a || bit k b)
 bit-or = bit-op bitOr max _||_ or-step (λ x y h k. omega arith) max-says
 
--- a shift down and a shift up
+-- a shift down
 pub bit-down : (k s p : ℕ) → bit k (p / 2 ^ s) ≡ bit (s + k) p
 bit-down k s p = ap (λ (x : ℕ). eqb (x % 2) 1) (shr-shr p s k)
 
@@ -82,9 +82,10 @@ bit-mod k w n h =
     ∙ bits-at w j n l
     ∙ ap (λ (i : ℕ). bit i n) e
 
-pub bit-up : (k s p : ℕ) → k < 64 → s ≤ k → bit k (p * 2 ^ s % 2 ^ 64) ≡ bit (k - s) p
-bit-up k s p h l =
+-- a shift up in a number of w bits
+pub bit-up : (w k s p : ℕ) → k < w → s ≤ k → bit k (p * 2 ^ s % 2 ^ w) ≡ bit (k - s) p
+bit-up w k s p h l =
     let e : k ≡ s + (k - s) = omega arith in
-    bit-mod k 64 (p * 2 ^ s) h
+    bit-mod k w (p * 2 ^ s) h
     ∙ ap (λ (i : ℕ). bit i (p * 2 ^ s)) e
     ∙ ap (λ (x : ℕ). eqb (x % 2) 1) (sym (shr-shr (p * 2 ^ s) s (k - s)) ∙ ap (λ (x : ℕ). x / 2 ^ (k - s)) (shl-shr p s))

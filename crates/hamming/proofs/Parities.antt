@@ -18,7 +18,7 @@ use Rattle.hamming.proofs.Lengths.{lengths-at}
 unfoldable pub table : List ℕ
 table = 0 ∷ 14 ∷ 7 ∷ 9 ∷ 11 ∷ 5 ∷ 12 ∷ 2 ∷ 13 ∷ 3 ∷ 10 ∷ 4 ∷ 6 ∷ 8 ∷ 1 ∷ 15 ∷ []
 
--- it has the parity bits of each data
+-- it has the parity bits of every four data bits
 pub table-is : (u : ℕ) → u < 16 → getD table u 0 ≡ value (parity (bits 4 u))
 unfolding table
 table-is = equal-at 16 (λ u. getD table u 0) (λ u. value (parity (bits 4 u))) tt

@@ -1,9 +1,9 @@
 -- The moves that take the logical bits of the default order from their places.
 -- Assumes nothing.
-use mathlib.Core.Path.{_≡_, refl, sym, ap, _∙_}
-use mathlib.Core.Bool.{true, false}
+use mathlib.Core.Path.{_≡_, sym, ap, _∙_}
+use mathlib.Core.Bool.{false}
 use mathlib.Core.List.{List, [], _∷_}
-use Prim.Native.Nat.{ℕ, suc, _*_, _-_, _%_, _^_, _<_}
+use Prim.Native.Nat.{ℕ, suc, _*_, _-_, _%_, _<_}
 use native.Mathlib.Omega.{arith}
 use lib.Dec.{lit<}
 use Rattle.bits.specs.Bits.{value, bit, bits, cut, carried}

@@ -42,7 +42,7 @@ comes (x ∷ xs) k t seen = cond (bit k (maskOf x)) (brings x k t && comes xs k 
 
 brought : (x : Move) (k t p : ℕ) → k < 64 → T (brings x k t) → bit k (shifted x p) ≡ bit t p
 brought (up s m) k t p h e =
-    bit-up k s p h (leb→le s k (and-left (leb s k) (eqb (k - s) t) e)) ∙ ap (λ (i : ℕ). bit i p) (eqb→eq (k - s) t (and-right (leb s k) (eqb (k - s) t) e))
+    bit-up 64 k s p h (leb→le s k (and-left (leb s k) (eqb (k - s) t) e)) ∙ ap (λ (i : ℕ). bit i p) (eqb→eq (k - s) t (and-right (leb s k) (eqb (k - s) t) e))
 brought (down s m) k t p h e = bit-down k s p ∙ ap (λ (i : ℕ). bit i p) (eqb→eq (s + k) t e)
 
 -- a bit that the mask names, and one that it does not

@@ -1,5 +1,5 @@
--- Document 01, "Receiver": the frames of seven bytes that stand one after another, and what a receiver that starts fresh makes of each, in the
--- default order.
+-- Document 01, "Receiver" and "Program hear": the frames of seven bytes that stand one after another, and what a receiver that starts fresh makes
+-- of each, in the default order.
 use Prim.Native.Nat.{ℕ, zero, suc, _*_, _/_}
 use mathlib.Core.List.{List}
 use lib.ListN.{length, take, drop}

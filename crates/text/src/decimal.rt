@@ -7,7 +7,8 @@ ghost use Rattle.bits.specs.Ascii.{digitByte};
 ghost use Rattle.text.specs.Text.{decimal};
 ghost use Rattle.text.specs.Placing.{written};
 
-// The last two digits of a number, with a zero in front of a single one. As one number, the first lower, they take one store.
+// The last two digits of a number, with a zero in front of a single one. Both are made as one number, the first in its low byte: so
+// the compiler stores them at once.
 fn write_pair(n: u64, out: &mut [u8], at: usize) -> usize
     requires { ⌜ at + 2 ≤ length (now out) ⌝ }
     ensures end { λ r. ⌜ r ≡ at + 2 ⌝ }

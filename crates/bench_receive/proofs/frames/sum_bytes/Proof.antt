@@ -1,8 +1,7 @@
 -- `bench_receive::frames::sum_bytes` meets its contract: the bytes that were read are summed. Assumes nothing.
-use mathlib.Core.Path.{sym, ap, _∙_}
+use mathlib.Core.Path.{ap, _∙_}
 use native.Mathlib.Omega.{arith}
-use lib.Seq.{length-take-le}
-use Rattle.bench_receive.specs.Sums.{bytesOf}
+use Rattle.bench_receive.specs.Sums.{eightBytes}
 use Rattle.bench_receive.proofs.frames.sum_bytes.Statement.{statement}
 use Rattle.bench_receive.proofs.frames.sum_bytes.Tie as tie
 
@@ -16,7 +15,7 @@ eight-bytes-requires : tie.Need-eight-bytes-requires
 eight-bytes-requires c κs = tt
 
 returns : tie.Need-returns
-returns c = c .eight-bytes .ensures ∙ ap bytesOf (c .before .sum-of .ensures)
+returns c = c .eight-bytes .ensures ∙ ap eightBytes (c .before .sum-of .ensures)
 
 pub sum-bytes-spec : {M : Type 1} → statement M
 sum-bytes-spec = tie.close (tie.spec slice-aggregate-sum-of sum-of-requires eight-bytes-requires returns)

@@ -1,4 +1,4 @@
--- `hamming::parity::all_parity` meets its contract: the table has the parity bits of each data. Assumes nothing.
+-- `hamming::parity::all_parity` meets its contract: the table has the parity bits of every four data bits. Assumes nothing.
 use native.Mathlib.Omega.{arith}
 use Rattle.hamming.proofs.Parities.{table, table-is}
 use Rattle.hamming.proofs.parity.all_parity.Statement.{statement}

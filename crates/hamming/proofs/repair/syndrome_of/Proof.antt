@@ -1,6 +1,6 @@
 -- `hamming::repair::syndrome_of` meets its contract: the exclusive or of two parities is the syndrome. Assumes nothing.
 use mathlib.Core.Path.{_≡_, sym, subst}
-use Prim.Native.Nat.{ℕ, _/_, _≤_}
+use Prim.Native.Nat.{ℕ, _/_}
 use native.Mathlib.Omega.{arith}
 use Rattle.bits.specs.Bits.{value, bits}
 use Rattle.hamming.specs.Word.{dataBits, parityOf}

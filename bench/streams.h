@@ -1,6 +1,6 @@
 /* Standard input and output, as all C programs here use them. */
-#ifndef CHANNEL_H
-#define CHANNEL_H
+#ifndef STREAMS_H
+#define STREAMS_H
 
 #include <stdint.h>
 #include <stdlib.h>
