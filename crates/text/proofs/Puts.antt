@@ -3,7 +3,7 @@ use mathlib.Core.Path.{_≡_, sym, ap, _∙_}
 use mathlib.Core.List.{List, [], _∷_, _++_, append-nil, append-assoc}
 use Prim.Native.Nat.{ℕ, suc, _+_, _≤_, _<_}
 use native.Mathlib.Omega.{arith}
-use lib.ListN.{length, take, drop, set, replicate, length-append, length-set, length-replicate, getD-replicate}
+use lib.ListN.{length, take, drop, set, replicate, length-append, take-append-drop, length-set, length-replicate, getD-replicate}
 use lib.Seq.{drop-cons, take-append-add}
 use Rattle.text.specs.Placing.{written, Appended, Put, PutIfRoom}
 use Rattle.text.proofs.Writes.{written-length, written-appended, written-one, written-append}
@@ -11,6 +11,16 @@ use Rattle.text.proofs.Writes.{written-length, written-appended, writte
 -- one byte stored
 pub byte-put : (out : List ℕ) (at b : ℕ) → at < length out → Put out at (b ∷ []) (set out at b) (at + 1)
 byte-put out at b h = (omega arith, written-one out at b h)
+
+-- nothing put
+pub put-none : (out : List ℕ) (at : ℕ) → Put out at [] out at
+put-none out at =
+    let n : at ≡ at + 0 = omega arith in
+    (n, sym (take-append-drop at out) ∙ (λ i. sym (append-nil (take at out)) i ++ drop (n i) out))
+
+-- a buffer keeps its length
+pub put-length : (a b : List ℕ) (at m : ℕ) (xs : List ℕ) → at + length xs ≤ length a → Put a at xs b m → length b ≡ length a
+put-length a b at m xs h p = ap length (p .1) ∙ written-length xs at a h
 
 module _ (a b c : List ℕ) (at m n : ℕ) (xs ys : List ℕ) where
   -- one after the other

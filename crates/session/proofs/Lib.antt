@@ -1,0 +1,5 @@
+pub mod Elements
+pub mod Frames
+pub mod Padding
+pub mod Texts
+pub mod Answers
