@@ -1,0 +1,25 @@
+-- The laws of session files: lines and their numbers for the reader's code, then readings, and what is claimed of them.
+pub mod Scans
+pub mod WholeLines
+pub mod Values
+pub mod CountLines
+pub mod HeaderLines
+pub mod Headers
+pub mod Fronts
+pub mod HexDigits
+pub mod HexBytes
+pub mod FrameLines
+pub mod FrameScans
+pub mod Refusals
+pub mod Places
+pub mod Answers
+pub mod Rests
+pub mod Readings
+pub mod BadHeaders
+pub mod BadLines
+pub mod Repeats
+pub mod FrontLines
+pub mod LongTexts
+pub mod Roundtrips
+pub mod Writers
+pub mod Claims
