@@ -1,8 +1,8 @@
 // The writer of session files.
-use crate::lines::has_padding;
-use crate::lines::write_lines;
 use crate::header::header_size;
 use crate::header::write_header;
+use crate::lines::has_padding;
+use crate::lines::write_lines;
 use text::LineAnswer;
 ghost use mathlib.Core.Path.{_≡_};
 ghost use Prim.Native.Nat.{_+_, _*_, _/_, _≤_};

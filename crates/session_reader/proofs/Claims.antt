@@ -9,6 +9,7 @@ use Rattle.session_reader.specs.Steps.{badHeaderLine, framesIn, firstPla
 use Rattle.session_reader.specs.Reading.{reading}
 use Rattle.session_reader.specs.Claims.{FirstBad, Claims, mostText}
 use Rattle.session_reader.specs.declared.Answer.the-variants.{Frame, Refused}
+use Rattle.session_reader.specs.declared.Step.{Step}
 use Rattle.session_reader.proofs.Answers.{kind, refused-only}
 use Rattle.session_reader.proofs.Headers.{good-header}
 use Rattle.session_reader.proofs.Rests.{rest-ends}
@@ -49,7 +50,7 @@ claims = record {
   only = text-only;
   refused = refused;
   ends = ends;
-  again = λ text at h. ap (stepAt text) (step-stays text at h);
+  again = λ text at h. ap (λ (s : Step). stepAt text (s .at)) (step-stays text at h);
   written = written-back;
   rewritten = rewritten-back;
   enough = λ text. reading-take text (mostText + 1) (omega arith);

@@ -23,3 +23,5 @@ pub mod LongTexts
 pub mod Roundtrips
 pub mod Writers
 pub mod Claims
+pub mod Calls
+pub mod Says

@@ -1,4 +1,4 @@
--- A step that hands on no frame leaves the offset as it was. Assumes nothing.
+-- A step that hands on no frame has none, and leaves the offset as it was. Assumes nothing.
 use mathlib.Core.Path.{_≡_, refl}
 use mathlib.Core.Bool.{Bool, true, false, cond}
 use mathlib.Core.List.{List}
@@ -11,9 +11,9 @@ use Rattle.session_reader.specs.Steps.{frameStep, lastStep, placeStep, s
 use Rattle.session_reader.specs.declared.Answer.the-variants.{Frame, End, Refused}
 use Rattle.session_reader.specs.declared.Step.{Step}
 
--- the offset stays unless a frame is handed on
+-- unless a frame is handed on, there is none and the offset stays
 abbrev Stays : ℕ → Step → Type 0
-Stays at s = (s .answer ≡ Frame → ⊥) → s .at ≡ at
+Stays at s = (s .answer ≡ Frame → ⊥) → s ≡ stays (s .answer) at
 
 -- so after either of two steps
 cond-stays : (at : ℕ) (b : Bool) (s t : Step) → Stays at s → Stays at t → Stays at (cond b s t)

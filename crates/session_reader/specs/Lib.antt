@@ -4,3 +4,4 @@ pub mod Steps
 pub mod Readers
 pub mod Reading
 pub mod Claims
+pub mod Calls
