@@ -25,3 +25,4 @@ pub mod Writers
 pub mod Claims
 pub mod Calls
 pub mod Says
+pub mod Examples

@@ -5,3 +5,4 @@ pub mod Readers
 pub mod Reading
 pub mod Claims
 pub mod Calls
+pub mod Examples
