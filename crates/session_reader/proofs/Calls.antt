@@ -100,3 +100,8 @@ calls-read r hs z calls =
     let text = now (r .text) in
     let r0 : r ≡ movedTo r 0 = λ i. movedTo r (z i) in
     from hs (movedTo r 0) mostFrames (claims .ends text) (subst (λ (x : Reader). NextCalls x hs) r0 calls)
+
+-- there are such calls: as many as one likes, of any reader
+pub calls-had : (n : ℕ) (r : Reader) → (hs : List Handed) × ((length hs ≡ n) × NextCalls r hs)
+calls-had zero r = ([], (refl, tt))
+calls-had (suc n) r = let more = calls-had n (handed r .rest) in (handed r ∷ more .0, (ap suc (more .1 .0), (refl, more .1 .1)))
