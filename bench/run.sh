@@ -1,8 +1,9 @@
 #!/usr/bin/env bash
 # run.sh [HEAR]: instructions a frame of the proved programs and of the same programs in C, on the same input: hear; receive by
-# itself (bench_receive); pack, with the set read from its bytes (send). "less it" is without those for an empty input, and the
-# ratio is that of the proved program to each. Status 1 if they write different bytes, or if hear or receive takes more than in
-# plain C. HEAR stands in for target/bin/hear. Needs clang, valgrind and the proved programs (rt check hear bench_receive send).
+# itself (bench_receive); pack, with the set read from its bytes (send); session files of 1,000 and of 2,000 frames (to_session and
+# from_session). "less it" is without those for an empty input, from_session's the file of no frames, and the ratio is that of the
+# proved program to each. Status 1 if they write different bytes, or if hear or receive takes more than in plain C. HEAR stands in
+# for target/bin/hear. Needs clang, valgrind and the proved programs (rt check hear bench_receive send to_session from_session).
 set -euo pipefail
 top=$(cd "$(dirname "$0")/.." && pwd)
 hear=$(realpath "${1:-$top/target/bin/hear}")
@@ -25,13 +26,13 @@ count() {
 # row WHAT NAME PROGRAM INPUT FRAMES: a line of the table; leaves the count in `total`.
 row() {
   total=$(count "$3" "$4")
-  awk -v what="$1" -v name="$2" -v total="$total" -v empty="$(count "$3" /dev/null)" -v frames="$5" -v proved="${proved:-$total}" 'BEGIN {
-    printf "%-8s %-18s %12d %9.1f %12d %9.1f %6.2f\n", what, name, total, total / frames, empty, (total - empty) / frames, proved / total }'
+  awk -v what="$1" -v name="$2" -v total="$total" -v empty="$(count "$3" "$empty")" -v frames="$5" -v proved="${proved:-$total}" 'BEGIN {
+    printf "%-17s %-18s %12d %9.1f %12d %9.1f %6.2f\n", what, name, total, total / frames, empty, (total - empty) / frames, proved / total }'
 }
 
-# same PROVED PROGRAM INPUT: they write the same bytes for the input, and for none.
+# same PROVED PROGRAM INPUT: they write the same bytes for the input, and for an empty one.
 same() {
-  for input in "$3" /dev/null; do
+  for input in "$3" "$empty"; do
     cmp <("$1" <"$input") <("$2" <"$input")
   done
 }
@@ -61,13 +62,30 @@ fewer() {
   fi
 }
 
+# session FRAMES: both programs on the first so many frames of `calls`, and on their file.
+session() {
+  head -c "$((7 * $1))" "$work/calls" >"$work/call"
+  "$work/to_session" <"$work/call" >"$work/file"
+  empty=/dev/null
+  measure "to_session $1" "$top/target/bin/to_session" to_session.c "$work/call" "$1" 'plain C'
+  empty=$work/no_frames
+  measure "from_session $1" "$top/target/bin/from_session" from_session.c "$work/file" "$1" 'plain C'
+}
+
+empty=/dev/null
 build frames frames.c
+build send send.c
+build to_session to_session.c
 "$work/frames" $frames $seed >"$work/input"
 "$work/frames" $sets $seed sets >"$work/sets"
+"$work/send" <"$work/sets" >"$work/calls"
+"$work/to_session" </dev/null >"$work/no_frames"
 clang --version | head -n 1
-printf '%-8s %-18s %12s %9s %12s %9s %6s\n' what program instructions 'a frame' 'empty input' 'less it' ratio
+printf '%-17s %-18s %12s %9s %12s %9s %6s\n' what program instructions 'a frame' 'empty input' 'less it' ratio
 measure hear "$hear" hear.c "$work/input" $frames 'plain C' 'tuned C' 'tuned C, by moves'
 fewer hear
 measure receive "$top/target/bin/bench_receive" receive.c "$work/input" $frames 'plain C' 'tuned C' 'tuned C, by moves'
 fewer receive
 measure pack "$top/target/bin/send" send.c "$work/sets" $sets 'plain C' 'tuned C'
+session 1000
+session 2000

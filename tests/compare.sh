@@ -3,7 +3,8 @@
 #   compare.sh vectors VECTORS [SEED]   so many calls of the library
 #   compare.sh spectrum INPUTS [SEED]   at least so many inputs of the program spectrum
 #   compare.sh hear FRAMES [SEED]       at least so many frames of the program hear
-#   compare.sh                          a short run of all three
+#   compare.sh session FILES [SEED]     at least so many inputs of the programs from_session and to_session
+#   compare.sh                          a short run of all four
 # Ends with status 1 at the first difference. Needs rustc, and the proved programs in target/bin (rt check).
 set -euo pipefail
 top=$(cd "$(dirname "$0")/.." && pwd)
@@ -166,6 +167,67 @@ compare_hear() {
   echo "hear: $frames frames in $call calls, no difference"
 }
 
+# ---- session ----
+
+# wrote PROGRAM: what it writes; frames in hexadecimal, a line for each.
+wrote() {
+  case $1 in
+  */from_session) "$1" | od -An -tx1 -v -w7 ;;
+  *) "$1" ;;
+  esac
+}
+
+# passed FOLDER: what the programs of a folder write for each input, which comes through a pipe in pieces, under a heading;
+# then what they write to standard error, their status, and how many bytes they left unread.
+passed() {
+  local number=0 pieces=(65536 1000 3) piece input program unread
+  for input in "$work"/cases/*/*; do
+    echo "case ${input#"$work/cases/"}"
+    program=${input%/*}
+    piece=${pieces[number++ % 3]}
+    dd if="$input" bs="$piece" status=none | {
+      status=0
+      wrote "$1/${program##*/}" 2>"$work/errors" || status=$?
+      unread=$(wc -c)
+      echo "(on standard error)" && cat "$work/errors"
+      echo "(ended with status $status, $unread bytes unread)"
+    }
+  done
+}
+
+# come_back PROGRAM OTHER: what the proved program makes of an input that it does not refuse, the other one must make the
+# input of again.
+come_back() {
+  local input
+  for input in "$work/cases/$1"/*; do
+    "$proved/$1" <"$input" >"$work/made" 2>"$work/errors"
+    [ ! -s "$work/errors" ] || continue
+    "$proved/$2" <"$work/made" | cmp -s - "$input" ||
+      fail "session: seed $seed, $kind case ${input#"$work/cases/"} does not come back from $2"
+  done
+}
+
+compare_session() {
+  local count=0 kind=spoilt seed=$2 inputs
+  prepare from_session session_cases difference
+  prepare to_session
+  while ((count < $1)); do
+    rm -rf "$work/cases" && mkdir "$work/cases"
+    "$work/session_cases" "$work/cases" "$kind" "$seed"
+    passed "$work" >"$work/expected"
+    passed "$proved" >"$work/printed"
+    same || fail "session: seed $seed, $kind $(case_at "${found[0]}")" "expected: ${found[1]}" "printed:  ${found[2]}"
+    come_back from_session to_session
+    come_back to_session from_session
+    inputs=("$work"/cases/*/*)
+    count=$((count + ${#inputs[@]}))
+    if [ "$kind" = random ]; then seed=$((seed + 1)); fi
+    kind=random
+    progress "$count files"
+  done
+  echo "session: $count files, no difference"
+}
+
 # ---- The call of this script ----
 
 number='^[1-9][0-9]{0,8}$'
@@ -173,9 +235,10 @@ if (($# == 0)); then
   compare_vectors 10000 1
   compare_spectrum 1500 1
   compare_hear 100000 1
-elif [[ $1 =~ ^(vectors|spectrum|hear)$ && ${2-} =~ $number && ${3-1} =~ $number && $# -le 3 ]]; then
+  compare_session 2000 1
+elif [[ $1 =~ ^(vectors|spectrum|hear|session)$ && ${2-} =~ $number && ${3-1} =~ $number && $# -le 3 ]]; then
   "compare_$1" "$2" "${3-1}"
 else
-  echo "usage: compare.sh [vectors VECTORS [SEED] | spectrum INPUTS [SEED] | hear FRAMES [SEED]]"
+  echo "usage: compare.sh [vectors VECTORS [SEED] | spectrum INPUTS [SEED] | hear FRAMES [SEED] | session FILES [SEED]]"
   exit 2
 fi

@@ -7,7 +7,7 @@ use crate::random::Random;
 use crate::set_bytes::bytes_of;
 
 /// What each byte of an output holds before a call.
-const HELD: u8 = 165;
+pub const HELD: u8 = 165;
 
 /// Put one field of a set out of its range.
 pub fn spoil(random: &mut Random, set: &mut Set) {

@@ -1,12 +1,11 @@
 //! The program of document 01's section "Program hear": `hear` takes frames on standard input, and prints what the
 //! program has to print; `hear selftest` tries the document's example.
 
+mod input;
 mod melp;
 
 use melp::{FrameResult, Kind, Set, Voicing};
-use std::fs::File;
-use std::io::{Read, Result, Write};
-use std::os::fd::AsFd;
+use std::io::{Result, Write};
 use std::process::ExitCode;
 
 /// Bytes of a frame.
@@ -67,11 +66,9 @@ fn hear(input: &[u8]) -> String {
     text + &format!("frames={frames} repeats={repeats} left={left}\n")
 }
 
-/// Read the input, unbuffered so that no byte past the most is taken, and print.
+/// Read the input and print.
 fn run() -> Result<()> {
-    let standard_input = File::from(std::io::stdin().as_fd().try_clone_to_owned()?);
-    let mut input = Vec::new();
-    standard_input.take(MOST_BYTES).read_to_end(&mut input)?;
+    let input = input::read_at_most(MOST_BYTES)?;
     std::io::stdout().write_all(hear(&input).as_bytes())
 }
 

@@ -4,7 +4,7 @@
 // Each program uses its part.
 #![allow(dead_code)]
 
-/// Refusal numbers that the calls here can give (section "Refusals by place").
+/// Refusal numbers of section "Refusals by place", and document 02's 8.
 #[derive(Clone, Copy, Debug, PartialEq, Eq)]
 pub enum Refusal {
     Output = 1,
@@ -14,6 +14,7 @@ pub enum Refusal {
     Parameter = 5,
     Codebook = 6,
     Row = 7,
+    Line = 8,
 }
 
 impl Refusal {

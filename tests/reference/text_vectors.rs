@@ -2,50 +2,30 @@
 
 use crate::codebook_vectors::{Rule, HELD};
 use crate::codebooks::{self, LSF_SIZE, MAGNITUDE_SIZE};
-use crate::layout::{put, vector_of, Vector};
+use crate::layout::{vector_of, Vector};
 use crate::melp::Refusal;
 use crate::random::Random;
+use crate::text_rule::TextRule;
 
-/// So many bytes of the lines 0000, 0001, 0002 and so on with a change: from a place on, some bytes go out and the given
-/// ones come in.
-#[derive(Clone)]
-struct TextRule {
-    size: usize,
-    at: usize,
-    skipped: usize,
-    given: Vec<u8>,
+/// So many lines.
+fn lines(count: usize) -> TextRule {
+    TextRule::plain(5 * count)
 }
 
-impl TextRule {
-    /// So many lines.
-    fn lines(count: usize) -> TextRule {
-        TextRule {
-            size: 5 * count,
-            at: 0,
-            skipped: 0,
-            given: Vec::new(),
-        }
+/// So many lines with another one in the place of line i.
+fn with_line(count: usize, i: usize, line: &[u8]) -> TextRule {
+    TextRule {
+        size: 5 * count - 4 + line.len(),
+        at: 5 * i,
+        skipped: 4,
+        given: line.to_vec(),
     }
+}
 
-    /// So many lines with another one in the place of line i.
-    fn with_line(count: usize, i: usize, line: &[u8]) -> TextRule {
-        TextRule {
-            size: 5 * count - 4 + line.len(),
-            at: 5 * i,
-            skipped: 4,
-            given: line.to_vec(),
-        }
-    }
-
-    /// The text.
-    fn text(&self) -> Vec<u8> {
-        let plain = (0..13_108).map(|i| format!("{:04}\n", i % 10_000));
-        let plain: Vec<u8> = plain.collect::<String>().into_bytes();
-        let rest = &plain[self.at + self.skipped..];
-        let mut text = [&plain[..self.at], &self.given, rest].concat();
-        text.truncate(self.size);
-        text
-    }
+/// The lines 0000, 0001, 0002 and so on.
+fn plain_text() -> Vec<u8> {
+    let lines = (0..13_108).map(|i| format!("{:04}\n", i % 10_000));
+    lines.collect::<String>().into_bytes()
 }
 
 /// The rule of the numbers that a call leaves in a buffer of that size; none where three replacements do not do.
@@ -67,19 +47,12 @@ fn left(answer: &Result<Vec<i64>, Refusal>, room: usize) -> Option<Rule> {
 fn vector(kind: u8, text: &TextRule, room: usize) -> Option<Vector> {
     let size = if kind == 20 { LSF_SIZE } else { MAGNITUDE_SIZE };
     let answer = if room == size {
-        codebooks::from_text(&text.text(), size)
+        codebooks::from_text(&text.text(&plain_text()), size)
     } else {
         Err(Refusal::Codebook)
     };
     let mut vector = vector_of(kind);
-    put(&mut vector, 1, &(text.size as u16).to_be_bytes());
-    put(&mut vector, 3, &(text.at as u16).to_be_bytes());
-    put(
-        &mut vector,
-        5,
-        &[text.skipped as u8, text.given.len() as u8],
-    );
-    put(&mut vector, 74, &text.given);
+    text.put(&mut vector);
     left(&answer, room)?.put(&mut vector);
     vector[72] = answer.map_or_else(Refusal::number, |_| 0);
     Some(vector)
@@ -131,7 +104,7 @@ fn whole_texts(size: usize) -> Vec<TextRule> {
     let all = 5 * size;
     let shorter = |bytes: usize| TextRule {
         size: all - bytes,
-        ..TextRule::lines(size)
+        ..lines(size)
     };
     let ended_by = |given: &[u8]| TextRule {
         size: all + given.len(),
@@ -141,16 +114,16 @@ fn whole_texts(size: usize) -> Vec<TextRule> {
     };
     let split_at_the_end = TextRule {
         size: all - 5 + 3,
-        ..TextRule::with_line(size - 1, size - 2, b"17\n18")
+        ..with_line(size - 1, size - 2, b"17\n18")
     };
     vec![
-        TextRule::lines(0),
-        TextRule::lines(1),
-        TextRule::lines(size - 1),
-        TextRule::lines(size),
-        TextRule::lines(size + 1),
-        TextRule::lines(if size == LSF_SIZE { 2560 } else { 3200 }),
-        TextRule::lines(2 * size),
+        lines(0),
+        lines(1),
+        lines(size - 1),
+        lines(size),
+        lines(size + 1),
+        lines(if size == LSF_SIZE { 2560 } else { 3200 }),
+        lines(2 * size),
         shorter(1),
         shorter(2),
         ended_by(b"\n"),
@@ -159,7 +132,7 @@ fn whole_texts(size: usize) -> Vec<TextRule> {
         ended_by(b"\0"),
         ended_by(b" "),
         split_at_the_end,
-        TextRule::with_line(size - 1, 0, b"1\n2"),
+        with_line(size - 1, 0, b"1\n2"),
     ]
 }
 
@@ -172,12 +145,12 @@ pub fn conditions() -> Vec<Vector> {
     for (kind, size) in [(20, LSF_SIZE), (21, MAGNITUDE_SIZE)] {
         let places = [0, size / 2, size - 1];
         let lines = LINES.iter().enumerate();
-        let lines = lines.map(|(i, line)| TextRule::with_line(size, places[i % 3], line));
+        let lines = lines.map(|(i, line)| with_line(size, places[i % 3], line));
         for text in lines.chain(whole_texts(size)) {
             vectors.extend(vector(kind, &text, size));
         }
         for room in ROOMS {
-            vectors.extend(vector(kind, &TextRule::with_line(size, 1, b"-5"), room));
+            vectors.extend(vector(kind, &with_line(size, 1, b"-5"), room));
         }
     }
     vectors
@@ -206,8 +179,8 @@ fn random_text(random: &mut Random, size: usize) -> TextRule {
         0 => random
             .pick(&whole_texts(size).iter().collect::<Vec<_>>())
             .clone(),
-        1 | 2 => TextRule::with_line(size, place, random.pick(&LINES)),
-        _ => TextRule::with_line(size, place, &random_line(random)),
+        1 | 2 => with_line(size, place, random.pick(&LINES)),
+        _ => with_line(size, place, &random_line(random)),
     }
 }
 

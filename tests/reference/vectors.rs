@@ -11,8 +11,11 @@ mod level_vectors;
 mod melp;
 mod random;
 mod receiver_vectors;
+mod session;
+mod session_vectors;
 mod set_bytes;
 mod set_vectors;
+mod text_rule;
 mod text_vectors;
 
 use layout::{vector_of, Vector};
@@ -24,7 +27,7 @@ use std::process::ExitCode;
 // ---- Kinds ----
 
 /// A maker of vectors of each kind, from kind 1 on.
-const MAKERS: [fn(&mut Random) -> Vector; 24] = [
+const MAKERS: [fn(&mut Random) -> Vector; 27] = [
     coder_vectors::pack,
     coder_vectors::class,
     coder_vectors::code,
@@ -49,6 +52,9 @@ const MAKERS: [fn(&mut Random) -> Vector; 24] = [
     receiver_vectors::receive_in_place,
     set_vectors::reading,
     set_vectors::writing,
+    session_vectors::parse,
+    session_vectors::read,
+    session_vectors::writing,
 ];
 
 /// One vector of a random kind, a quarter of them of receiving.
@@ -106,7 +112,10 @@ fn compared(vector: &Vector) -> Vec<usize> {
         20 | 21 => once(72).chain(compared_numbers(vector)).collect(),
         23 => (14..=25).collect(),
         24 => (12..=22).collect(),
-        _ => unreachable!("the makers have 24 kinds"),
+        25 | 26 => (18..=36).collect(),
+        27 if is_given(18) => vec![18, 19, 20, 1, 2],
+        27 => vec![18, 19, 20, 1, 2, 5, 6, 7, 8],
+        _ => unreachable!("the makers have 27 kinds"),
     }
 }
 
@@ -135,6 +144,7 @@ fn good_vectors(random: &mut Random) -> Vec<Vector> {
     vectors.extend(codebook_vectors::conditions());
     vectors.extend(text_vectors::conditions());
     vectors.extend(set_vectors::conditions());
+    vectors.extend(session_vectors::conditions());
     vectors
 }
 
@@ -181,7 +191,7 @@ fn vectors_of_no_set(random: &mut Random) -> Vec<Vector> {
 
 /// Vectors of no kind, or with an argument that no vector has.
 fn bad_vectors(random: &mut Random) -> Vec<Vector> {
-    let mut vectors = vec![vector_of(0), vector_of(25), vector_of(255)];
+    let mut vectors = vec![vector_of(0), vector_of(28), vector_of(255)];
     let with = |kind: usize, at: usize, bytes: &[u8], random: &mut Random| {
         let mut vector = MAKERS[kind - 1](random);
         layout::put(&mut vector, at, bytes);
@@ -198,6 +208,7 @@ fn bad_vectors(random: &mut Random) -> Vec<Vector> {
     vectors.push(with(20, 16, &size, random));
     vectors.push(with(23, 1, &[13], random));
     vectors.extend(vectors_of_no_set(random));
+    vectors.extend(session_vectors::bad_vectors());
     vectors
 }
 
