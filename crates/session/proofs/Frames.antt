@@ -31,7 +31,7 @@ pub frame-length : (bytes : List ℕ) (k : ℕ) → k < length bytes / 7 → len
 frame-length bytes k h = length-take-le 7 (drop (7 * k) bytes) (omega (arith, length-drop (7 * k) bytes))
 
 -- each of them is a byte where all are
-pub frame-bytes : (bytes : List ℕ) (k : ℕ) → Every (λ b. b < 256) bytes → Every (λ b. b < 256) (frameAt bytes k)
+frame-bytes : (bytes : List ℕ) (k : ℕ) → Every (λ b. b < 256) bytes → Every (λ b. b < 256) (frameAt bytes k)
 frame-bytes bytes k h = every-take (λ b. b < 256) 7 (drop (7 * k) bytes) (every-drop (λ b. b < 256) (7 * k) bytes h)
 
 -- all frames have seven bytes
@@ -65,7 +65,7 @@ joined-cut bytes i (suc n) =
     ∙ ap (λ (k : ℕ). take k (drop (7 * i) bytes)) size
 
 -- the bytes of the first k frames
-pub joined-front : (bytes : List ℕ) (k : ℕ) → joined (cut (frameAt bytes) 0 k) ≡ take (7 * k) bytes
+joined-front : (bytes : List ℕ) (k : ℕ) → joined (cut (frameAt bytes) 0 k) ≡ take (7 * k) bytes
 joined-front bytes k = joined-cut bytes 0 k
 
 -- whole frames joined are the bytes
@@ -74,7 +74,7 @@ unfolding framesOf
 frames-joined bytes h = joined-front bytes (length bytes / 7) ∙ take-all (7 * (length bytes / 7)) bytes (omega arith)
 
 -- frames joined have seven bytes each
-pub joined-length : (fs : List (List ℕ)) → Every (λ f. length f ≡ 7) fs → length (joined fs) ≡ 7 * length fs
+joined-length : (fs : List (List ℕ)) → Every (λ f. length f ≡ 7) fs → length (joined fs) ≡ 7 * length fs
 unfolding joined
 joined-length [] h = refl
 joined-length (f ∷ fs) h = length-append f (joined fs) ∙ omega (arith, h .0, joined-length fs (h .1))

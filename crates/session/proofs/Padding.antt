@@ -25,7 +25,7 @@ padded-is frame = ap not (go (bitAt frame 54) (bitAt frame 55)) ∙ ap (λ (n : 
     go false false = refl
 
 -- of two lists of frames one has padding bits
-pub padded-append : (xs ys : List (List ℕ)) → anyPadded (xs ++ ys) ≡ anyPadded xs || anyPadded ys
+padded-append : (xs ys : List (List ℕ)) → anyPadded (xs ++ ys) ≡ anyPadded xs || anyPadded ys
 padded-append [] ys = refl
 padded-append (f ∷ xs) ys = ap (λ (b : Bool). isPadded f || b) (padded-append xs ys) ∙ sym (or-assoc (isPadded f) (anyPadded xs) (anyPadded ys))
 

@@ -15,7 +15,7 @@ use Rattle.session.specs.Writing.{frameAt, framesOf, textOf}
 use Rattle.session.proofs.Frames.{frames-length, frames-sized, frames-more}
 
 -- bytes after bytes
-pub hex-append : (xs ys : List ℕ) → hexText (xs ++ ys) ≡ hexText xs ++ hexText ys
+hex-append : (xs ys : List ℕ) → hexText (xs ++ ys) ≡ hexText xs ++ hexText ys
 unfolding hexText
 hex-append [] ys = refl
 hex-append (x ∷ xs) ys = ap (λ (l : List ℕ). hexPair x ++ l) (hex-append xs ys)

@@ -58,7 +58,7 @@ line-back l e =
 
 module _ (f : List ℕ) (s : Seven f) where
   -- seven bytes have 14 digits
-  pub digits-length : length (hexText f) ≡ 14
+  digits-length : length (hexText f) ≡ 14
   digits-length = omega (arith, hex-length f, s .0)
 
   -- the line of seven bytes is a frame's, and these are in it

@@ -14,7 +14,7 @@ module _ (text : List ℕ) (k at : ℕ) (good : badHeaderLine text ≡ 0) (e : p
   place = firstPlace text + 17 * k
 
   -- the step there, after three good lines
-  pub place-step : k ≤ framesIn text → stepAt text at ≡ placeStep text (framesIn text) k at place
+  place-step : k ≤ framesIn text → stepAt text at ≡ placeStep text (framesIn text) k at place
   unfolding stepAt stepAfter isPlace
   place-step h =
       let first = firstPlace text in

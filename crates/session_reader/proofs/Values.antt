@@ -54,7 +54,7 @@ value-le v (c ∷ cs) =
     digit-cases (λ t. v ≤ cond t (digitsValue (10 * v + (c - 48)) cs) v) c (λ low high. omega (arith, more)) (omega arith)
 
 -- k digits after a value below b write one below b times the power of ten
-pub value-lt : (k b v : ℕ) (t : List ℕ) → v < b → digitsValue v (take k t) < b * 10 ^ k
+value-lt : (k b v : ℕ) (t : List ℕ) → v < b → digitsValue v (take k t) < b * 10 ^ k
 unfolding digitsValue
 value-lt zero b v t h = rw (pow-zero, mul-one) h
 value-lt (suc k) b v [] h = omega (arith, mul-le-mul-left b (one-le-pow (suc k) 10 (omega arith)))

@@ -1,20 +1,20 @@
 -- The writer and the reader: bytes that the writer takes are good frames, and it takes those of good frames. Assumes nothing.
 use mathlib.Core.Path.{_≡_, refl, ap, _∙_}
-use mathlib.Core.Bool.{Bool, true, false, not, _||_, and-eq-true-iff, true≢false}
+use mathlib.Core.Bool.{Bool, true, false, not, _||_, true≢false}
 use mathlib.Core.List.{List, [], _∷_, _++_}
 use Prim.Native.Nat.{ℕ, _/_, _%_, _≤_, _<_}
 use native.Mathlib.Omega.{arith}
 use lib.Dec.{ltb, leb, eqb}
 use lib.ListN.{length, take, drop}
 use lib.Seq.{take-append-seam}
-use borrow.Author.Tests.{le-ltb, leb-true, le-leb, eq-eqb}
+use borrow.Author.Tests.{le-ltb, le-leb, eq-eqb}
 use Rattle.bits.specs.Lists.{Every, writtenUnless}
 use Rattle.bits.specs.Refusals.{firstRefusal}
 use Rattle.text.specs.declared.LineAnswer.the-variants.{Written}
 use Rattle.session.specs.Format.{sessionText, mostFrames}
 use Rattle.session.specs.Writing.{framesOf, joined, isWhole, isPadded, anyPadded, textOf, writeRefusal, writeAnswer, writeWrites}
 use Rattle.session.proofs.Elements.{every-weaker}
-use Rattle.session.proofs.Frames.{frames-length, frames-seven, joined-frames}
+use Rattle.session.proofs.Frames.{whole-parts, frames-length, frames-seven, frames-joined, joined-frames}
 use Rattle.session.proofs.Padding.{good-is, good-only}
 use Rattle.session_reader.specs.Reading.{reading}
 use Rattle.session_reader.specs.Claims.{Seven, Good}
@@ -35,28 +35,29 @@ good-frames : (fs : List (List ℕ)) → Every Good fs → anyPadded fs ≡ fals
 good-frames [] g = refl
 good-frames (f ∷ fs) (g, gs) = rw (good-only f (g .0) .1) (good-frames fs gs)
 
--- what the writer takes: at most 2,000 frames without padding bits
-writer-takes : (bytes : List ℕ) (room : ℕ) → writeRefusal bytes room ≡ 0 → (length bytes / 7 ≤ mostFrames) × (anyPadded (framesOf bytes) ≡ false)
+-- what the writer takes: 0 to 2,000 whole frames without padding bits
+writer-takes : (bytes : List ℕ) (room : ℕ) → writeRefusal bytes room ≡ 0 → (isWhole bytes ≡ true) × (anyPadded (framesOf bytes) ≡ false)
 writer-takes bytes room e = go (isWhole bytes) (ltb room (length (textOf bytes))) (anyPadded (framesOf bytes)) refl refl e
   where
     go : (a b c : Bool) → isWhole bytes ≡ a → anyPadded (framesOf bytes) ≡ c → firstRefusal ((not a, 2) ∷ (b, 1) ∷ (c, 3) ∷ []) ≡ 0
-        → (length bytes / 7 ≤ mostFrames) × (anyPadded (framesOf bytes) ≡ false)
+        → (isWhole bytes ≡ true) × (anyPadded (framesOf bytes) ≡ false)
     go false b c w p z = absurd (omega arith)
     go true true c w p z = absurd (omega arith)
     go true false true w p z = absurd (omega arith)
-    go true false false w p z =
-        (leb-true (length bytes / 7) mostFrames (and-eq-true-iff (eqb (length bytes % 7) 0) (leb (length bytes / 7) mostFrames) .0 w .1), p)
+    go true false false w p z = (w, p)
 
--- what the writer wrote is read back
+-- what the writer wrote is read back as the frames that it was lent
 pub written-back : (bytes out : List ℕ) → Every (λ b. b < 256) bytes → writeRefusal bytes (length out) ≡ 0
-    → reading (take (length (textOf bytes)) (writeWrites bytes out)) ≡ record { frames = framesOf bytes; answer = End }
+    → (reading (take (length (textOf bytes)) (writeWrites bytes out)) ≡ record { frames = framesOf bytes; answer = End }) × (joined (framesOf bytes) ≡ bytes)
 unfolding writeWrites
 written-back bytes out small e =
     let text = textOf bytes in
     let p = writer-takes bytes (length out) e in
+    let w = whole-parts bytes (p .0) in
     let front : take (length text) (writeWrites bytes out) ≡ text =
     ap (λ (r : ℕ). take (length text) (writtenUnless r (length text) text out)) e ∙ take-append-seam text (drop (length text) out) in
-    ap reading front ∙ text-back (framesOf bytes) (omega (arith, frames-length bytes, p .0)) (frames-good (framesOf bytes) (frames-seven bytes small) (p .1))
+    let good = frames-good (framesOf bytes) (frames-seven bytes small) (p .1) in
+    (ap reading front ∙ text-back (framesOf bytes) (omega (arith, frames-length bytes, w .1)) good, frames-joined bytes (w .0))
 
 -- good frames joined are taken, and written as their text
 joined-written : (fs : List (List ℕ)) (out : List ℕ) → length fs ≤ mostFrames → Every Good fs → length (sessionText fs) ≤ length out

@@ -2,7 +2,7 @@
 use Prim.Native.Nat.{ℕ, _+_, _≤_, _<_}
 use mathlib.Core.Path.{_≡_}
 use mathlib.Core.Bool.{true}
-use mathlib.Core.List.{List, [], _∷_, _++_}
+use mathlib.Core.List.{List, [], _++_}
 use lib.ListN.{length, take, drop}
 use Rattle.bits.specs.Lists.{Every}
 use Rattle.order.specs.Order.{frameRefusal}
@@ -54,9 +54,9 @@ pub record Claims : Type 0 where
   pub ends : (text : List ℕ) → reading text .answer ≡ Frame → ⊥
   -- a reader that has handed on no frame answers the same again
   pub again : (text : List ℕ) (at : ℕ) → (stepAt text at .answer ≡ Frame → ⊥) → stepAt text (stepAt text at .at) ≡ stepAt text at
-  -- what the writer wrote is read back, and a text read to its end comes out of the writer with the same bytes
+  -- what the writer wrote is read back as the frames that it was lent, and a text read to its end comes out of the writer with the same bytes
   pub written : (bytes out : List ℕ) → Every (λ b. b < 256) bytes → writeRefusal bytes (length out) ≡ 0
-      → reading (take (length (textOf bytes)) (writeWrites bytes out)) ≡ record { frames = framesOf bytes; answer = End }
+      → (reading (take (length (textOf bytes)) (writeWrites bytes out)) ≡ record { frames = framesOf bytes; answer = End }) × (joined (framesOf bytes) ≡ bytes)
   pub rewritten : (text out : List ℕ) → reading text .answer ≡ End → length text ≤ length out
       → (writeAnswer (joined (reading text .frames)) (length out) ≡ Written (length text))
       × (writeWrites (joined (reading text .frames)) out ≡ text ++ drop (length text) out)

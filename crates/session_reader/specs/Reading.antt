@@ -5,7 +5,6 @@ use Rattle.session.specs.Format.{mostFrames}
 use Rattle.session_reader.specs.Steps.{stepAt}
 use Rattle.session_reader.specs.declared.Answer.{Answer}
 use Rattle.session_reader.specs.declared.Answer.the-variants.{Frame, End, Refused}
-use Rattle.session_reader.specs.declared.Step.{Step}
 
 -- the frames handed on, and the answer of the last step
 pub record Reading : Type 0 where

@@ -1,5 +1,4 @@
 -- `session::header::header_size` meets its contract: 30 bytes stand around the digits. Assumes nothing.
-use mathlib.Core.Path.{sym}
 use native.Mathlib.Omega.{arith}
 use Rattle.text.proofs.Decimals.{decimal-length}
 use Rattle.session.proofs.Texts.{header-length}

@@ -1,10 +1,8 @@
 -- `session::writing::write_text` meets its contract: the lines of the frames follow the first three. Assumes nothing.
 use mathlib.Core.Path.{ap, sym, _∙_}
-use mathlib.Core.List.{List, _++_}
-use Prim.Native.Nat.{ℕ, _/_}
+use Prim.Native.Nat.{_/_}
 use native.Mathlib.Omega.{arith}
 use lib.ListN.{length}
-use Rattle.text.specs.Placing.{Put}
 use Rattle.text.proofs.Puts.{put-append}
 use Rattle.session.specs.Format.{header, frameLines, sessionText}
 use Rattle.session.specs.Writing.{framesOf}

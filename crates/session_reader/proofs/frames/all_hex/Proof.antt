@@ -3,8 +3,8 @@ use mathlib.Core.Path.{_≡_, refl, sym, ap, _∙_}
 use mathlib.Core.Bool.{Bool, _&&_, and-assoc, and-true}
 use Prim.Native.Nat.{_+_, _-_, _≤_}
 use native.Mathlib.Omega.{arith}
-use lib.ListN.{length, drop, getD}
-use Rattle.session_reader.specs.Lines.{isHex, allHex}
+use lib.ListN.{length, drop}
+use Rattle.session_reader.specs.Lines.{allHex}
 use Rattle.session_reader.proofs.HexDigits.{hex-more, hex-out}
 use Rattle.session_reader.proofs.frames.all_hex.Statement.{statement}
 use Rattle.session_reader.proofs.frames.all_hex.Tie as tie

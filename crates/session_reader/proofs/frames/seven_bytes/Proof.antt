@@ -4,7 +4,7 @@ use mathlib.Core.Bool.{true}
 use mathlib.Core.List.{List, _++_, append-nil}
 use Prim.Native.Nat.{ℕ, _+_, _*_, _-_, _≤_, _<_}
 use native.Mathlib.Omega.{arith}
-use lib.ListN.{length, take, drop, getD, set, replicate, length-replicate, length-set}
+use lib.ListN.{length, take, drop, getD, set, replicate, length-replicate}
 use Rattle.bits.proofs.Cut.{cut-length, cut-at}
 use Rattle.bits.proofs.Front.{front-more, front-all}
 use Rattle.session_reader.specs.Lines.{allHex, hexBytes}
