@@ -2,13 +2,12 @@
 use mathlib.Core.Path.{_≡_, ap, _∙_}
 use mathlib.Core.Bool.{Bool, true, false, cond}
 use mathlib.Core.List.{List, [], _∷_, _++_}
-use Prim.Native.Nat.{ℕ, zero, suc, _/_, _%_, _≤_}
+use Prim.Native.Nat.{ℕ, zero, suc, _+_, _/_, _%_, _≤_}
 use native.Mathlib.Omega.{arith}
 use lib.Dec.{ltb}
-use lib.ListN.{take, drop}
+use lib.ListN.{length, take, drop, length-append}
 use borrow.Author.Tests.{le-leb}
 use Rattle.bits.specs.Ascii.{digitByte}
-use Rattle.bits.proofs.Tests.{equal-at}
 use Rattle.text.specs.Text.{ascii, digits, decimal}
 use Rattle.session.proofs.Elements.{every-append}
 use Rattle.session.specs.Format.{countLine, mostFrames}
@@ -17,6 +16,7 @@ use Rattle.session_reader.specs.Scans.{begins}
 use Rattle.session_reader.proofs.Scans.{begins-is}
 use Rattle.session_reader.proofs.WholeLines.{Plain, line-begins, line-first, same-back}
 use Rattle.session_reader.proofs.Values.{value-line}
+use Rattle.session_reader.proofs.Numbers.{value-line-end}
 
 -- no digit of a number ends a line
 digits-plain : (k n : ℕ) → Plain (digits k n)
@@ -46,10 +46,15 @@ pub count-first : (n : ℕ) (rest : List ℕ) → lineOf (countLine n ++ rest) �
 unfolding countLine
 count-first n rest = line-first (countBody n) rest (count-plain n)
 
+-- the third line has eight bytes around its digits
+pub count-length : (n : ℕ) → length (countLine n) ≡ length (decimal n) + 8
+unfolding countLine
+count-length n = omega (arith, length-append (decimal n) (ascii "\n"))
+
 -- a third line for at most 2,000 frames has its own number
 pub count-value : (n : ℕ) → n ≤ mostFrames → countOf (countLine n) ≡ n
-unfolding countLine digitsValue decimal digits
-count-value n h = equal-at 2001 (λ x. countOf (countLine x)) (λ x. x) tt n (omega arith)
+unfolding countLine
+count-value n h = value-line-end n (omega arith)
 
 -- and is one to the reader
 pub count-good : (n : ℕ) → n ≤ mostFrames → isCountLine (countLine n) ≡ true

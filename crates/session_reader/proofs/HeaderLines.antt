@@ -53,7 +53,7 @@ header-passed text e = go (begins fileLine text) (begins orderLine (drop 10 text
         record { file = f; order = o; count = sym (count-begins m (drop 22 text)) ∙ q .1; most = leb-true m mostFrames (q .0) }
 
 -- the name of the third line comes first in it
-name-begins : (n : ℕ) (t : List ℕ) → begins (countLine n) t ≡ begins (ascii "frames=") t && begins (decimal n ++ ascii "\n") (drop 7 t)
+pub name-begins : (n : ℕ) (t : List ℕ) → begins (countLine n) t ≡ begins (ascii "frames=") t && begins (decimal n ++ ascii "\n") (drop 7 t)
 unfolding countLine
 name-begins n t = begins-join (ascii "frames=") (decimal n ++ ascii "\n") t
 

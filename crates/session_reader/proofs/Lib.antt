@@ -2,8 +2,11 @@
 pub mod Scans
 pub mod WholeLines
 pub mod Values
+pub mod Numbers
+pub mod Digits
 pub mod CountLines
 pub mod HeaderLines
+pub mod QuickHeaders
 pub mod Headers
 pub mod Fronts
 pub mod HexDigits

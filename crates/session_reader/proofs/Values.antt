@@ -13,7 +13,7 @@ use borrow.Author.Tests.{le-leb, leb-true, eqb-true}
 use Rattle.session_reader.specs.Lines.{lineOf, digitsValue}
 
 -- what holds for a digit and for any other byte holds for the test
-digit-cases : (P : Bool → Type 0) (c : ℕ) → (48 ≤ c → c ≤ 57 → P true) → P false → P (leb 48 c && leb c 57)
+pub digit-cases : (P : Bool → Type 0) (c : ℕ) → (48 ≤ c → c ≤ 57 → P true) → P false → P (leb 48 c && leb c 57)
 digit-cases P c digit other = go (leb 48 c && leb c 57) refl
   where
     go : (t : Bool) → leb 48 c && leb c 57 ≡ t → P t

@@ -1,6 +1,6 @@
 pub mod Lines
-pub mod Scans
 pub mod Steps
+pub mod Scans
 pub mod Readers
 pub mod Reading
 pub mod Claims

@@ -1,5 +1,7 @@
 // The three lines before the frames.
 use crate::bytes::has_bytes;
+use crate::quick::quick_count;
+use crate::quick::quick_good;
 use text::Name;
 use text::end_of;
 use text::number;
@@ -7,8 +9,7 @@ ghost use mathlib.Core.Path.{_≡_};
 ghost use Prim.Native.Nat.{_≤_, _<_};
 ghost use lib.ListN.{length, take, drop};
 ghost use Rattle.session_reader.specs.Lines.{digitsValue};
-ghost use Rattle.session_reader.specs.Scans.{missingLine};
-ghost use Rattle.session_reader.specs.Steps.{badHeaderLine, framesIn, firstPlace};
+ghost use Rattle.session_reader.specs.Scans.{missingLine, Tells};
 
 const FRAMES: Name = *b"frames=.........";
 
@@ -61,12 +62,9 @@ fn missing_line(text: &[u8], n: u64, third: &[u8]) -> u16
     0
 }
 
-// What the lines say. The third is good if it is what the number in it is written as.
-pub(crate) fn read_header(text: &[u8]) -> Header
-    ensures bad { λ r. ⌜ r .bad ≡ badHeaderLine (now (text .entry)) ⌝ }
-    ensures frames { λ r. ⌜ (r .bad ≡ 0 → r .frames ≡ framesIn (now (text .entry))) ⌝ }
-    ensures first { λ r. ⌜ (r .bad ≡ 0 → r .first ≡ firstPlace (now (text .entry))) ⌝ }
-    ensures bound { λ r. ⌜ (r .frames < 10000) × (r .first ≤ 50) ⌝ }
+// What the lines say, one judged after the other. The third is good if it is what the number in it is written as.
+fn judge_lines(text: &[u8]) -> Header
+    ensures { λ r. ⌜ Tells (now (text .entry)) (r .bad) (r .frames) (r .first) ⌝ }
 {
     let n = count_in(text);
     let mut line = [b'\n'; 28];
@@ -75,5 +73,23 @@ pub(crate) fn read_header(text: &[u8]) -> Header
         bad: missing_line(text, n, &line[..end + 1]),
         frames: n as usize,
         first: 23 + end,
+    }
+}
+
+// What the lines say: good ones are told at once, others are judged one after the other.
+pub(crate) fn read_header(text: &[u8]) -> Header
+    ensures { λ r. ⌜ Tells (now (text .entry)) (r .bad) (r .frames) (r .first) ⌝ }
+{
+    if text.len() < 34 {
+        return judge_lines(text);
+    }
+    let count = quick_count(text);
+    if !quick_good(text, count.value, count.end) {
+        return judge_lines(text);
+    }
+    Header {
+        bad: 0,
+        frames: count.value,
+        first: count.end + 1,
     }
 }

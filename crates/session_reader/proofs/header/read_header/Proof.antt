@@ -1,101 +1,64 @@
--- `session_reader::header::read_header` meets its contract: the third line is compared with what its number is written as. Assumes nothing.
-use mathlib.Core.Path.{_≡_, sym, ap, _∙_}
-use mathlib.Core.List.{List}
-use Prim.Native.Nat.{ℕ, _+_, _<_}
+-- `session_reader::header::read_header` meets its contract: the lines are good at the first look, or judged one by one. Assumes nothing.
+use mathlib.Core.Path.{_≡_, sym, _∙_}
+use mathlib.Core.Bool.{true}
+use Prim.Native.Nat.{_+_, _<_}
 use native.Mathlib.Omega.{arith}
-use lib.ListN.{length, take, replicate, length-append}
-use lib.Seq.{length-take-le}
-use Rattle.text.specs.Text.{ascii, decimal, field}
-use Rattle.text.specs.Placing.{Put}
-use Rattle.text.proofs.Answers.{owed-put}
-use Rattle.text.proofs.Decimals.{decimal-length}
-use Rattle.text.proofs.Parts.{Part, field-le, ended-lt}
-use Rattle.text.proofs.Puts.{front-then}
-use Rattle.session.specs.Format.{countLine}
-use Rattle.session_reader.specs.Scans.{missingLine}
-use Rattle.session_reader.proofs.HeaderLines.{missing-is, frames-is, first-is}
+use lib.ListN.{length, drop}
+use borrow.Author.Tests.{not-false}
+use Rattle.session_reader.specs.Scans.{quickGood}
+use Rattle.session_reader.specs.Steps.{badHeaderLine, firstPlace}
+use Rattle.session_reader.proofs.Values.{value-fits}
+use Rattle.session_reader.proofs.HeaderLines.{frames-is}
+use Rattle.session_reader.proofs.QuickHeaders.{quick-bad, quick-first}
 use Rattle.session_reader.proofs.header.read_header.Statement.{statement}
 use Rattle.session_reader.proofs.header.read_header.Tie as tie
 
--- the third line has eight bytes around its digits
-line-size : (n : ℕ) → length (countLine n) ≡ length (decimal n) + 8
-unfolding countLine
-line-size n = omega (arith, length-append (decimal n) (ascii "\n"))
-
--- the number, and its line before the end
-module _ (c : tie.After-end-of) where
-  abbrev counted : tie.After-count-in
-  counted = c .before .before .before .before
-
-  abbrev n : ℕ
-  n = counted .count-in .result
-
-  abbrev text : List ℕ
-  text = field "frames=" (decimal n)
-
-  -- it is in the buffer
-  whole : Part (replicate 28 10) 0 text 11 (c .before .before .number .last .1 .1 .1 .0) (c .end-of .result)
-  whole =
-      (owed-put text 0 (replicate 28 10) _ _ _ (c .before .before .number .ensures) (c .end-of .ensures), field-le (ascii "frames=") 7 (decimal n) 4 (decimal-length 3 n (counted .count-in .ensures .1)))
-
-  short : c .end-of .result < 28
-  short = ended-lt 28 _ text _ 11 whole (omega arith)
-
-  put : Put (replicate 28 10) 0 text (c .before .before .number .last .1 .1 .1 .0) (c .end-of .result)
-  put = whole .0 (omega (arith, whole .1))
-
-  -- and the line end stands after it
-  line-is : take (c .end-of .result + 1) (c .before .before .number .last .1 .1 .1 .0) ≡ countLine n
-  unfolding countLine
-  line-is = front-then 28 10 _ _ text (omega (arith, whole .1)) put
-
-count-in-requires : tie.Need-count-in-requires
-count-in-requires c κs = tt
-
-slice-aggregate-number : tie.Need-slice-aggregate-number
-slice-aggregate-number c = omega arith
-
-number-requires : tie.Need-number-requires
-number-requires c κs = tt
-
-end-of-requires : tie.Need-end-of-requires
-end-of-requires c κs = tt
-
-add-line : tie.Need-add-line
-add-line c = record { fits = omega (arith, short c) }
-
-array-share-prefix-line : tie.Need-array-share-prefix-line
-array-share-prefix-line c = omega (arith, short c, c .before .before .number .kept .1 .1 .1 .0)
-
-slice-aggregate-missing-line : tie.Need-slice-aggregate-missing-line
-slice-aggregate-missing-line c = sym (length-take-le _ _ (array-share-prefix-line (c .before)))
-
-missing-line-requires : tie.Need-missing-line-requires
-missing-line-requires c κs = rw (line-is (c .before)) (omega (arith, line-size (n (c .before))))
-
-add-t14 : tie.Need-add-t14
-add-t14 c = record { fits = omega (arith, short (c .before .before)) }
+judge-lines-requires : tie.Need-judge-lines-requires
+judge-lines-requires c κs = tt
 
 returns : tie.Need-returns
-returns c =
-    let w = c .before .before in
-    let text = counted w .before .before .args .text .now in
-    let is = counted w .count-in .ensures .0 in
-    let e = c .missing-line .ensures ∙ ap (missingLine text (n w)) (line-is w) ∙ missing-is text (n w) is in
-    let end : 23 + w .end-of .result ≡ 22 + length (countLine (n w)) = omega (arith, put w .0, line-size (n w)) in
-    (e, ((λ z. sym (frames-is text (n w) is (sym e ∙ z))), ((λ z. end ∙ sym (first-is text (n w) is (sym e ∙ z))), (counted w .count-in .ensures .1, omega (arith, short w)))))
+returns c = c .judge-lines .ensures
+
+quick-count-requires : tie.Need-quick-count-requires
+quick-count-requires c κs = c .if1 .left
+
+quick-good-requires : tie.Need-quick-good-requires
+quick-good-requires c κs = (c .before .if1 .left, c .quick-count .ensures .1 .1)
+
+judge-lines-requires-2 : tie.Need-judge-lines-requires-2
+judge-lines-requires-2 c κs = tt
+
+returns-2 : tie.Need-returns-2
+returns-2 c = c .judge-lines2 .ensures
+
+add-t3 : tie.Need-add-t3
+add-t3 c = omega arith
+
+returns-3 : tie.Need-returns-3
+returns-3 c =
+    let e = c .before in
+    let g = e .before in
+    let q = g .before in
+    let text = q .before .before .before .args .text .now in
+    let n = q .quick-count .result .value in
+    let end = q .quick-count .result .end in
+    let is = q .quick-count .ensures .0 in
+    let ends = q .quick-count .ensures .1 .0 in
+    let room : end < length text = omega (arith, q .quick-count .ensures .1 .1, q .before .if1 .left) in
+    let good : quickGood text n end ≡ true = sym (g .quick-good .ensures) ∙ not-false (g .quick-good .result) (e .if2 .left) in
+    let bad : badHeaderLine text ≡ 0 = quick-bad text n end is ends room good in
+    let first : firstPlace text ≡ end + 1 = quick-first text n end is ends room good in
+    (sym bad, ((λ z. sym (frames-is text n is bad)), ((λ z. sym first), (omega (arith, is, value-fits (drop 29 text)), omega (arith, q .quick-count .ensures .1 .1)))))
 
 pub read-header-spec : {M : Type 1} → statement M
 read-header-spec =
     tie.close
     (tie.spec
-    count-in-requires
-    slice-aggregate-number
-    number-requires
-    end-of-requires
-    add-line
-    array-share-prefix-line
-    slice-aggregate-missing-line
-    missing-line-requires
-    add-t14
-    returns)
+    judge-lines-requires
+    returns
+    quick-count-requires
+    quick-good-requires
+    judge-lines-requires-2
+    returns-2
+    add-t3
+    returns-3)
