@@ -6,6 +6,7 @@ use crate::packing;
 use crate::parameters;
 use crate::receiving;
 use crate::rows;
+use crate::sessions;
 use crate::short;
 use crate::texts;
 use crate::values;
@@ -82,6 +83,8 @@ pub(crate) fn agrees(r: &[u8; 256]) -> bool {
         15 => receiving::fresh_agrees(r),
         23 => parameters::reading_agrees(r),
         24 => parameters::writing_agrees(r),
+        25 | 26 => sessions::step_agrees(r, kind),
+        27 => sessions::write_agrees(r),
         _ => ranged_agrees(r, kind),
     }
 }

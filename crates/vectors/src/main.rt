@@ -1,31 +1,39 @@
 // Runs the vectors of an independent implementation, from standard input, through the libraries. A vector
 // is 256 bytes: its kind, the arguments of a call, and what the call must answer.
 //
-//   calls       the call of a vector, by its kind
-//   vector      the bytes of a vector, and the numbers, parts and sets in them
-//   coder       answers about the pitch code, the words and the levels
-//   short       calls with few bytes: those that `coder` answers
-//   choosing    gain codes
-//   packing     packing
-//   parameters  sets: their ranges and their bytes
-//   frames      the 54 bits of a frame, and what a frame is read as
-//   receiving   receiving, and a receiver's record
-//   in_place    receiving into a record in place
-//   codebooks   the codebook of a vector, by a rule
-//   rows        rows of a codebook
-//   values      LSF values and magnitudes
-//   texts       codebooks in their text form
+//   calls          the call of a vector, by its kind
+//   vector         the bytes of a vector, and the numbers, parts and sets in them
+//   coder          answers about the pitch code, the words and the levels
+//   short          calls with few bytes: those that `coder` answers
+//   choosing       gain codes
+//   packing        packing
+//   parameters     sets: their ranges and their bytes
+//   frames         the 54 bits of a frame, and what a frame is read as
+//   receiving      receiving, and a receiver's record
+//   in_place       receiving into a record in place
+//   codebooks      the codebook of a vector, by a rule
+//   rows           rows of a codebook
+//   values         LSF values and magnitudes
+//   text_rule      the text of a vector, by a rule
+//   texts          codebooks in their text form
+//   session_texts  the frames and lines of session files, by the rule
+//   sessions       reading and writing session files
+//   digits         digits of numbers
 mod calls;
 mod choosing;
 mod codebooks;
 mod coder;
+mod digits;
 mod frames;
 mod in_place;
 mod packing;
 mod parameters;
 mod receiving;
 mod rows;
+mod session_texts;
+mod sessions;
 mod short;
+mod text_rule;
 mod texts;
 mod values;
 mod vector;

@@ -8,8 +8,8 @@ use crate::vector::refused;
 use frame::PackAnswer;
 use sets::ParameterSet;
 
-// What each byte of the output holds before a call.
-const HELD: u8 = 165;
+// What each byte of an output holds before a call.
+pub(crate) const HELD: u8 = 165;
 
 // Whether the refusal and the next sync bit are those in bytes 14 and 15, and the output afterwards is the one in bytes 16
 // to 31.

@@ -1,23 +1,15 @@
--- `vectors::texts::read_agrees` is safe: no more is lent of the text and of the buffer than they have. Assumes nothing.
+-- `vectors::texts::read_agrees` is safe: no more is lent of the buffer than it has. Assumes nothing.
 use mathlib.Core.Path.{sym}
-use Prim.Native.Nat.{_≤_}
-use lib.ListN.{length}
 use lib.Seq.{length-take-le}
 use native.Mathlib.Omega.{arith}
-use borrow.Author.Needs.{needs}
 use Rattle.vectors.proofs.texts.read_agrees.Statement.{statement}
 use Rattle.vectors.proofs.texts.read_agrees.Tie as tie
-
-slice-aggregate-front : tie.Need-slice-aggregate-front
-slice-aggregate-front c =
-    let h : c .before .before .args .size ≤ length (c .before .before .args .text .now) = search needs in
-    sym (length-take-le _ _ h)
 
 array-borrow-prefix-buffer : tie.Need-array-borrow-prefix-buffer
 array-borrow-prefix-buffer c = omega arith
 
 slice-aggregate-read-lsf : tie.Need-slice-aggregate-read-lsf
-slice-aggregate-read-lsf c = sym (length-take-le _ _ (c .before .before .before .before .pre .1))
+slice-aggregate-read-lsf c = sym (length-take-le _ _ (c .before .before .before .pre))
 
 read-lsf-requires : tie.Need-read-lsf-requires
 read-lsf-requires c κs = tt
@@ -26,7 +18,7 @@ array-borrow-prefix-buffer-2 : tie.Need-array-borrow-prefix-buffer-2
 array-borrow-prefix-buffer-2 c = omega arith
 
 slice-aggregate-read-magnitudes : tie.Need-slice-aggregate-read-magnitudes
-slice-aggregate-read-magnitudes c = sym (length-take-le _ _ (c .before .before .before .before .pre .1))
+slice-aggregate-read-magnitudes c = sym (length-take-le _ _ (c .before .before .before .pre))
 
 read-magnitudes-requires : tie.Need-read-magnitudes-requires
 read-magnitudes-requires c κs = tt
@@ -47,7 +39,6 @@ pub read-agrees-spec : {M : Type 1} → statement M
 read-agrees-spec =
     tie.close
     (tie.spec
-    slice-aggregate-front
     array-borrow-prefix-buffer
     slice-aggregate-read-lsf
     read-lsf-requires
