@@ -10,7 +10,7 @@ use Rattle.bits.specs.Bits.{cut}
 use Rattle.bits.specs.Lists.{Every}
 use Rattle.text.specs.Text.{ascii, decimal}
 use Rattle.text.proofs.Decimals.{decimal-length}
-use Rattle.session.specs.Format.{countLine, hexPair, hexText, frameLine, frameLines, header, sessionText, mostFrames}
+use Rattle.session.specs.Format.{countLine, hexPair, hexText, frameLine, frameLines, header, sessionText, mostFrames, mostText}
 use Rattle.session.specs.Writing.{frameAt, framesOf, textOf}
 use Rattle.session.proofs.Frames.{frames-length, frames-sized, frames-more}
 
@@ -75,7 +75,7 @@ text-length bytes =
     ∙ ap (λ (k : ℕ). length (header k) + 17 * k) n
 
 -- at most 2,000 frames have at most 34,034 bytes
-pub text-le : (bytes : List ℕ) → length bytes / 7 ≤ mostFrames → length (textOf bytes) ≤ 34034
+pub text-le : (bytes : List ℕ) → length bytes / 7 ≤ mostFrames → length (textOf bytes) ≤ mostText
 text-le bytes h =
     let n : ℕ = length bytes / 7 in
     omega (arith, text-length bytes, header-length n, decimal-length 3 n (omega arith))

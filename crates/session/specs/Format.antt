@@ -48,6 +48,9 @@ header n = fileLine ++ (orderLine ++ countLine n)
 unfoldable pub sessionText : List (List ℕ) → List ℕ
 sessionText fs = header (length fs) ++ frameLines fs
 
--- the most frames of a file
+-- the most frames of a file, and how many bytes such a file has: the three lines 34, and each frame's 17
 abbrev pub mostFrames : ℕ
 mostFrames = 2000
+
+abbrev pub mostText : ℕ
+mostText = 34034

@@ -4,10 +4,10 @@ use mathlib.Core.List.{List, []}
 use Prim.Native.Nat.{ℕ, zero, suc, _+_}
 use native.Mathlib.Omega.{arith}
 use lib.ListN.{drop}
-use Rattle.session.specs.Format.{frameLines}
+use Rattle.session.specs.Format.{frameLines, mostText}
 use Rattle.session_reader.specs.Steps.{badHeaderLine, framesIn, firstPlace, stepAt}
 use Rattle.session_reader.specs.Reading.{reading}
-use Rattle.session_reader.specs.Claims.{FirstBad, Claims, mostText}
+use Rattle.session_reader.specs.Claims.{FirstBad, Claims}
 use Rattle.session_reader.specs.declared.Answer.the-variants.{Frame, Refused}
 use Rattle.session_reader.specs.declared.Step.{Step}
 use Rattle.session_reader.proofs.Answers.{kind, refused-only}

@@ -7,12 +7,11 @@ use lib.ListN.{length, take, drop, length-append}
 use lib.Seq.{take-take}
 use Rattle.text.specs.Text.{ascii, decimal}
 use Rattle.text.proofs.Decimals.{decimal-length}
-use Rattle.session.specs.Format.{fileLine, orderLine, countLine}
+use Rattle.session.specs.Format.{fileLine, orderLine, countLine, mostText}
 use Rattle.session_reader.specs.Lines.{digitsValue}
 use Rattle.session_reader.specs.Scans.{missingLine}
 use Rattle.session_reader.specs.Steps.{badHeaderLine, framesIn, firstPlace}
 use Rattle.session_reader.specs.Reading.{reading}
-use Rattle.session_reader.specs.Claims.{mostText}
 use Rattle.session_reader.proofs.Scans.{begins-take}
 use Rattle.session_reader.proofs.Values.{value-fits}
 use Rattle.session_reader.proofs.HeaderLines.{missing-is, frames-is, first-is}

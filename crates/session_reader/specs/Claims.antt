@@ -6,7 +6,7 @@ use mathlib.Core.List.{List, [], _++_}
 use lib.ListN.{length, take, drop}
 use Rattle.bits.specs.Lists.{Every}
 use Rattle.order.specs.Order.{frameRefusal}
-use Rattle.session.specs.Format.{fileLine, orderLine, countLine, header, frameLine, frameLines, sessionText, mostFrames}
+use Rattle.session.specs.Format.{fileLine, orderLine, countLine, header, frameLine, frameLines, sessionText, mostFrames, mostText}
 use Rattle.session.specs.Writing.{framesOf, joined, isPadded, textOf, writeRefusal, writeAnswer, writeWrites}
 use Rattle.text.specs.declared.LineAnswer.the-variants.{Written}
 use Rattle.session_reader.specs.Lines.{lineOf}
@@ -38,10 +38,6 @@ pub data FirstBad (text : List ℕ) (fs : List (List ℕ)) (number line : ℕ) :
   -- as many as it says, and something after them
   surplus : (rest : List ℕ) → length fs ≤ mostFrames → Every Good fs → number ≡ 8 → line ≡ length fs + 4
       → text ≡ sessionText fs ++ rest → (rest ≡ [] → ⊥) → FirstBad text fs number line
-
--- the longest file: three lines, and 2,000 of 17 bytes
-abbrev pub mostText : ℕ
-mostText = 34034
 
 pub record Claims : Type 0 where
   -- the text of any list of frames is read back as that list, and ends

@@ -21,14 +21,18 @@ lineAt text at = lineOf (drop at text)
 -- whether two lines are the same
 abbrev pub sameBytes : List ℕ → List ℕ → Bool
 sameBytes [] [] = true
-sameBytes [] (b ∷ bs) = false
-sameBytes (a ∷ as′) [] = false
-sameBytes (a ∷ as′) (b ∷ bs) = eqb a b && sameBytes as′ bs
+sameBytes [] (y ∷ ys) = false
+sameBytes (x ∷ xs) [] = false
+sameBytes (x ∷ xs) (y ∷ ys) = eqb x y && sameBytes xs ys
+
+-- a decimal digit
+abbrev pub isDigit : ℕ → Bool
+isDigit c = leb 48 c && leb c 57
 
 -- the number that the digits in front of a text write, after those of value v
 unfoldable pub digitsValue : ℕ → List ℕ → ℕ
 digitsValue v [] = v
-digitsValue v (c ∷ cs) = cond (leb 48 c && leb c 57) (digitsValue (10 * v + (c - 48)) cs) v
+digitsValue v (c ∷ cs) = cond (isDigit c) (digitsValue (10 * v + (c - 48)) cs) v
 
 -- the number in the third line, of at most four digits: `frames=` has seven bytes
 abbrev pub countOf : List ℕ → ℕ
@@ -40,7 +44,7 @@ isCountLine line = leb (countOf line) mostFrames && sameBytes line (countLine (c
 
 -- a lower-case hexadecimal digit: `0` to `9`, or `a` to `f`
 abbrev pub isHex : ℕ → Bool
-isHex c = (leb 48 c && leb c 57) || (leb 97 c && leb c 102)
+isHex c = isDigit c || (leb 97 c && leb c 102)
 
 -- its value
 abbrev pub hexValue : ℕ → ℕ

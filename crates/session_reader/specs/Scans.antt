@@ -8,6 +8,7 @@ use lib.ListN.{getD, drop}
 use Rattle.bits.specs.Refusals.{firstRefusal}
 use Rattle.text.specs.Text.{ascii}
 use Rattle.session.specs.Format.{fileLine, orderLine, mostFrames}
+use Rattle.session_reader.specs.Lines.{isDigit}
 use Rattle.session_reader.specs.Steps.{badHeaderLine, framesIn, firstPlace}
 
 -- whether a text begins with these bytes
@@ -30,7 +31,7 @@ Tells text bad frames first =
 -- how many digits are in front of a text
 unfoldable pub digitsIn : List ℕ → ℕ
 digitsIn [] = 0
-digitsIn (c ∷ cs) = cond (leb 48 c && leb c 57) (suc (digitsIn cs)) 0
+digitsIn (c ∷ cs) = cond (isDigit c) (suc (digitsIn cs)) 0
 
 -- whether the lines are good at the first look, by the number in the third and where it ends: the bytes before it are right, it has no `0` in
 -- front and is not too high, and LF comes after it

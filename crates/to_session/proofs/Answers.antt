@@ -12,14 +12,15 @@ use Rattle.text.specs.declared.LineAnswer.{LineAnswer}
 use Rattle.text.specs.declared.LineAnswer.the-variants.{Written, Refused}
 use Rattle.value_lines.specs.Lines.{refusalLine}
 use Rattle.session.specs.Writing.{textOf, writeAnswer, writeWrites}
-use Rattle.to_session.specs.Output.{mostInput, mostFile, refusalOf, fileUnless, messageIf, file, message, AllWritten}
+use Rattle.session.specs.Format.{mostText}
+use Rattle.to_session.specs.Output.{mostInput, refusalOf, fileUnless, messageIf, file, message, AllWritten}
 use Rattle.to_session.proofs.Inputs.{read-enough}
 
 -- a number of bytes at the start of a buffer
 counted : (n : ℕ) (out : List ℕ) → n ≤ length out → Counts n out
 counted n out h = (h, sym (length-take-le n out h))
 
-module _ (bytes out : List ℕ) (room : length out ≡ mostFile) (answer : LineAnswer) (after : List ℕ)
+module _ (bytes out : List ℕ) (room : length out ≡ mostText) (answer : LineAnswer) (after : List ℕ)
     (o : (answer ≡ writeAnswer bytes (length out)) × (after ≡ writeWrites bytes out)) where
   -- the answer and the file by the number of the refusal
   by-refusal : (r : ℕ) → refusalOf bytes ≡ r
@@ -58,7 +59,7 @@ module _ (bytes out : List ℕ) (room : length out ≡ mostFile) (answer : LineA
 abbrev Owed : List ℕ → ℕ → List ℕ → ℕ → List ℕ → ℕ → Type 0
 Owed buffer size out end errors last = Counts end out × (Counts last errors × AllWritten buffer size out end errors last)
 
-module _ (buffer : List ℕ) (size : ℕ) (full : length buffer ≡ mostInput) (out : List ℕ) (room : length out ≡ mostFile) (answer : LineAnswer) (after : List ℕ)
+module _ (buffer : List ℕ) (size : ℕ) (full : length buffer ≡ mostInput) (out : List ℕ) (room : length out ≡ mostText) (answer : LineAnswer) (after : List ℕ)
     (o : (answer ≡ writeAnswer (take size buffer) (length out)) × (after ≡ writeWrites (take size buffer) out)) where
   -- after an answer with the end of the text
   pub text-owes : (end : ℕ) → answer ≡ Written end → (errors : List ℕ) → Owed buffer size after end errors 0

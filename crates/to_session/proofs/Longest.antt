@@ -10,7 +10,8 @@ use Rattle.bits.specs.Refusals.{firstRefusal}
 use Rattle.session.specs.Writing.{isWhole, anyPadded, framesOf, textOf}
 use Rattle.session.proofs.Frames.{whole-parts}
 use Rattle.session.proofs.Texts.{text-le}
-use Rattle.to_session.specs.Output.{mostFile, refusalOf}
+use Rattle.session.specs.Format.{mostText}
+use Rattle.to_session.specs.Output.{refusalOf}
 
 -- the refusal is never 1
 pub room-enough : (input : List ℕ) → refusalOf input ≡ 1 → ⊥
@@ -22,6 +23,6 @@ room-enough input = go (isWhole input) refl
 
     go : (b : Bool) → isWhole input ≡ b → refusalOf input ≡ 1 → ⊥
     go true w =
-        let short = le-ltb mostFile (length (textOf input)) (text-le input (whole-parts input w .1)) in
+        let short = le-ltb mostText (length (textOf input)) (text-le input (whole-parts input w .1)) in
         rw (w, short) (padded (anyPadded (framesOf input)))
     go false w = rw w (λ e. omega arith)

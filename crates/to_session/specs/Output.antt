@@ -5,19 +5,16 @@ use mathlib.Core.List.{List, []}
 use lib.ListN.{take}
 use Rattle.bits.specs.Lists.{ReadFrom}
 use Rattle.value_lines.specs.Lines.{refusalLine}
-use Rattle.session.specs.Format.{mostFrames}
+use Rattle.session.specs.Format.{mostFrames, mostText}
 use Rattle.session.specs.Writing.{textOf, writeRefusal}
 
--- as many bytes as are read, one more than 2,000 frames have, and as the longest file has
+-- as many bytes as are read: one more than 2,000 frames have
 abbrev pub mostInput : ℕ
 mostInput = 7 * mostFrames + 1
 
-abbrev pub mostFile : ℕ
-mostFile = 34034
-
 -- the refusal of the frames, for which there is room
 abbrev pub refusalOf : List ℕ → ℕ
-refusalOf input = writeRefusal input mostFile
+refusalOf input = writeRefusal input mostText
 
 -- the file, nothing where they are refused
 abbrev pub fileUnless : ℕ → List ℕ → List ℕ

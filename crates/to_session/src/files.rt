@@ -4,7 +4,8 @@ use text::end_of;
 ghost use mathlib.Core.Path.{_≡_};
 ghost use lib.ListN.{length};
 ghost use Rattle.io.specs.Counts.{Counts};
-ghost use Rattle.to_session.specs.Output.{mostInput, mostFile, AllWritten};
+ghost use Rattle.session.specs.Format.{mostText};
+ghost use Rattle.to_session.specs.Output.{mostInput, AllWritten};
 
 // Where the file ends, and the line of a refusal.
 pub(crate) struct Ends {
@@ -15,7 +16,7 @@ pub(crate) struct Ends {
 // The file and the line for the standard input of which the first `size` bytes of a buffer were read.
 pub(crate) fn write_file(input: &[u8], size: usize, file: &mut [u8], message: &mut [u8]) -> Ends
     requires { ⌜ (length (now input) ≡ mostInput) × Counts size (now input) ⌝ }
-    requires { ⌜ (length (now file) ≡ mostFile) × (length (now message) ≡ 22) ⌝ }
+    requires { ⌜ (length (now file) ≡ mostText) × (length (now message) ≡ 22) ⌝ }
     ensures file { λ r. ⌜ Counts (r .file) (now (file .exit)) ⌝ }
     ensures message { λ r. ⌜ Counts (r .message) (now (message .exit)) ⌝ }
     ensures written { λ r. ⌜ AllWritten (now (input .entry)) size (now (file .exit)) (r .file) (now (message .exit)) (r .message) ⌝ }
