@@ -11,10 +11,10 @@ use Rattle.bits.specs.Lists.{ReadFrom}
 use Rattle.text.specs.Placing.{Put}
 use Rattle.text.proofs.Puts.{front-is}
 use Rattle.session.specs.Writing.{joined}
-use Rattle.session_reader.specs.Reading.{Reading, reading}
+use Rattle.session_claims.specs.Reading.{Reading, reading}
 use Rattle.session_reader.specs.declared.Answer.{Answer}
 use Rattle.session_reader.specs.declared.Answer.the-variants.{Refused}
-use Rattle.session_reader.proofs.Claims.{claims}
+use Rattle.session_claims.proofs.Claims.{claims}
 use Rattle.from_session.specs.Output.{mostInput, frames, refusalLine, messageOf, AllWritten}
 use Rattle.from_session.proofs.Turns.{Owed}
 

@@ -10,7 +10,7 @@ use Rattle.text.proofs.Writes.{written-length}
 use Rattle.session.specs.Format.{mostFrames}
 use Rattle.session.specs.Writing.{joined}
 use Rattle.session_reader.specs.Steps.{stepAt}
-use Rattle.session_reader.specs.Reading.{Reading, andThen, endsBy, onward, readingFrom, reading}
+use Rattle.session_claims.specs.Reading.{Reading, andThen, endsBy, onward, readingFrom, reading}
 use Rattle.session_reader.specs.declared.Answer.{Answer}
 use Rattle.session_reader.specs.declared.Answer.the-variants.{Frame, End, Refused}
 use Rattle.session_reader.specs.declared.Step.{Step}

@@ -7,7 +7,7 @@ use Rattle.bits.specs.Lists.{ReadFrom}
 use Rattle.text.specs.Text.{ascii, decimal, field}
 use Rattle.session.specs.Format.{mostText}
 use Rattle.session.specs.Writing.{joined}
-use Rattle.session_reader.specs.Reading.{reading}
+use Rattle.session_claims.specs.Reading.{reading}
 use Rattle.session_reader.specs.declared.Answer.{Answer}
 use Rattle.session_reader.specs.declared.Answer.the-variants.{Frame, End, Refused}
 

@@ -7,7 +7,7 @@ ghost use lib.ListN.{length, drop};
 ghost use Rattle.text.specs.Placing.{written};
 ghost use Rattle.session.specs.Format.{mostFrames};
 ghost use Rattle.session.specs.Writing.{joined};
-ghost use Rattle.session_reader.specs.Reading.{reading};
+ghost use Rattle.session_claims.specs.Reading.{reading};
 
 // Where the frames end, and the answer of the reader after them.
 pub(crate) struct Copied {

@@ -3,3 +3,4 @@ pub mod Frames
 pub mod Padding
 pub mod Texts
 pub mod Answers
+pub mod Examples

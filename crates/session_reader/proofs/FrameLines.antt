@@ -10,7 +10,7 @@ use Rattle.text.specs.Text.{ascii}
 use Rattle.session.specs.Format.{hexText, frameLine}
 use Rattle.session.proofs.Texts.{hex-length, frame-line-length}
 use Rattle.session_reader.specs.Lines.{lineOf, sameBytes, allHex, hexBytes, isFrameLine, frameOf}
-use Rattle.session_reader.specs.Claims.{Seven}
+use Rattle.session_reader.specs.Lines.{Seven}
 use Rattle.session_reader.proofs.WholeLines.{line-first, same-is}
 use Rattle.session_reader.proofs.HexDigits.{hex-plain}
 use Rattle.session_reader.proofs.HexBytes.{text-hex, text-back, text-only}

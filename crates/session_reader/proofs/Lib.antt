@@ -1,4 +1,3 @@
--- The laws of session files: lines and their numbers for the reader's code, then readings, and what is claimed of them.
 pub mod Scans
 pub mod WholeLines
 pub mod Values
@@ -13,19 +12,4 @@ pub mod HexDigits
 pub mod HexBytes
 pub mod FrameLines
 pub mod FrameScans
-pub mod Refusals
-pub mod Places
-pub mod Answers
-pub mod Rests
-pub mod Readings
-pub mod BadHeaders
-pub mod BadLines
-pub mod Repeats
-pub mod FrontLines
-pub mod LongTexts
-pub mod Roundtrips
-pub mod Writers
-pub mod Claims
-pub mod Calls
 pub mod Says
-pub mod Examples

@@ -2,7 +2,3 @@ pub mod Lines
 pub mod Steps
 pub mod Scans
 pub mod Readers
-pub mod Reading
-pub mod Claims
-pub mod Calls
-pub mod Examples

@@ -1,9 +1,11 @@
 -- Document 02, T-01: the lines of a text, and which of them belong in a session file. Each is judged with its end.
-use Prim.Native.Nat.{ℕ, _+_, _-_, _*_}
+use Prim.Native.Nat.{ℕ, _+_, _-_, _*_, _<_}
+use mathlib.Core.Path.{_≡_}
 use mathlib.Core.Bool.{Bool, true, false, not, _&&_, _||_, cond}
 use mathlib.Core.List.{List, [], _∷_}
 use lib.Dec.{ltb, leb, eqb}
-use lib.ListN.{take, drop}
+use lib.ListN.{length, take, drop}
+use Rattle.bits.specs.Lists.{Every}
 use Rattle.bits.specs.Refusals.{Table, firstRefusal}
 use Rattle.text.specs.Text.{ascii}
 use Rattle.session.specs.Format.{countLine, mostFrames}
@@ -68,6 +70,10 @@ isFrameLine line = sameBytes (take 2 line) (ascii "f=") && allHex (take 14 (drop
 -- the frame in it
 unfoldable pub frameOf : List ℕ → List ℕ
 frameOf line = hexBytes (take 14 (drop 2 line))
+
+-- seven bytes, whatever their last bits
+abbrev pub Seven : List ℕ → Type 0
+Seven frame = (length frame ≡ 7) × Every (λ b. b < 256) frame
 
 -- what refuses a line where a frame's is due: it is none; its frame has padding bits
 abbrev pub lineTable : List ℕ → Table

@@ -1,27 +1,13 @@
--- Document 02, T-01, in numbers: the file of one frame, that of document 01's example 6, and files with one thing wrong.
-use Prim.Native.Nat.{ℕ}
-use Prim.Native.String.{String}
+-- Document 02, T-01, in numbers: steps in the file of one frame, that of document 01's example 6, and in files with one thing wrong.
 use mathlib.Core.Path.{_≡_}
-use mathlib.Core.List.{List, [], _∷_, _++_}
+use mathlib.Core.List.{[]}
 use Rattle.text.specs.Text.{ascii}
-use Rattle.session.specs.Format.{sessionText}
+use Rattle.session.specs.Examples.{frame, after, file}
 use Rattle.session_reader.specs.Steps.{stays, stepAt}
 use Rattle.session_reader.specs.declared.Answer.the-variants.{Frame, End, Refused}
-
-abbrev pub frame : List ℕ
-frame = 0x80 ∷ 0x56 ∷ 0x0D ∷ 0x40 ∷ 0x15 ∷ 0x00 ∷ 0x10 ∷ []
-
--- the first two lines with others after them
-abbrev pub after : String → List ℕ
-after lines = ascii "file=melp\norder=house\n" ++ ascii lines
-
-abbrev pub file : List ℕ
-file = after "frames=1\nf=80560d40150010\n"
 
 -- the file of the frame, and of none: read from 0, and at the offset after each step
 pub record Good : Type 0 where
-  pub text : sessionText (frame ∷ []) ≡ file
-  pub none : sessionText [] ≡ after "frames=0\n"
   pub first : stepAt file 0 ≡ record { answer = Frame; frame = frame; at = 48 }
   pub end : stepAt file 48 ≡ stays End 48
   pub end-of-none : stepAt (after "frames=0\n") 0 ≡ stays End 0
@@ -34,6 +20,7 @@ pub record Bad : Type 0 where
   pub leading-zero : stepAt (after "frames=01\nf=80560d40150010\n") 0 ≡ stays (Refused 8 3) 0
   pub two-zeros : stepAt (after "frames=00\n") 0 ≡ stays (Refused 8 3) 0
   pub too-many : stepAt (after "frames=2001\n") 0 ≡ stays (Refused 8 3) 0
+  pub most-without-lines : stepAt (after "frames=2000\n") 0 ≡ stays (Refused 8 4) 0
   pub no-number : stepAt (after "frames=\n") 0 ≡ stays (Refused 8 3) 0
   pub upper-case : stepAt (after "frames=1\nf=80560D40150010\n") 0 ≡ stays (Refused 8 4) 0
   pub carriage-return : stepAt (after "frames=1\nf=80560d40150010\r\n") 0 ≡ stays (Refused 8 4) 0

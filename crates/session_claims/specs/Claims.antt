@@ -9,15 +9,11 @@ use Rattle.order.specs.Order.{frameRefusal}
 use Rattle.session.specs.Format.{fileLine, orderLine, countLine, header, frameLine, frameLines, sessionText, mostFrames, mostText}
 use Rattle.session.specs.Writing.{framesOf, joined, isPadded, textOf, writeRefusal, writeAnswer, writeWrites}
 use Rattle.text.specs.declared.LineAnswer.the-variants.{Written}
-use Rattle.session_reader.specs.Lines.{lineOf}
+use Rattle.session_reader.specs.Lines.{lineOf, Seven}
 use Rattle.session_reader.specs.Steps.{stepAt}
-use Rattle.session_reader.specs.Reading.{reading}
+use Rattle.session_claims.specs.Reading.{reading}
 use Rattle.session_reader.specs.declared.Answer.{Answer}
 use Rattle.session_reader.specs.declared.Answer.the-variants.{Frame, End, Refused}
-
--- seven bytes
-abbrev pub Seven : List ℕ → Type 0
-Seven frame = (length frame ≡ 7) × Every (λ b. b < 256) frame
 
 -- a frame without padding bits
 abbrev pub Good : List ℕ → Type 0

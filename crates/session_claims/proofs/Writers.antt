@@ -16,10 +16,11 @@ use Rattle.session.specs.Writing.{framesOf, joined, isWhole, isPadded, anyPadde
 use Rattle.session.proofs.Elements.{every-weaker}
 use Rattle.session.proofs.Frames.{whole-parts, frames-length, frames-seven, frames-joined, joined-frames}
 use Rattle.session.proofs.Padding.{good-is, good-only}
-use Rattle.session_reader.specs.Reading.{reading}
-use Rattle.session_reader.specs.Claims.{Seven, Good}
+use Rattle.session_claims.specs.Reading.{reading}
+use Rattle.session_reader.specs.Lines.{Seven}
+use Rattle.session_claims.specs.Claims.{Good}
 use Rattle.session_reader.specs.declared.Answer.the-variants.{End}
-use Rattle.session_reader.proofs.Roundtrips.{text-back, text-only}
+use Rattle.session_claims.proofs.Roundtrips.{text-back, text-only}
 
 -- frames of seven bytes without padding bits are good
 frames-good : (fs : List (List ℕ)) → Every Seven fs → anyPadded fs ≡ false → Every Good fs

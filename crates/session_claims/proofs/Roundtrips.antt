@@ -7,14 +7,14 @@ use lib.ListN.{length, drop}
 use lib.Seq.{drop-append-seam}
 use Rattle.bits.specs.Lists.{Every}
 use Rattle.session.specs.Format.{header, frameLines, sessionText, mostFrames}
 use Rattle.session_reader.specs.Steps.{badHeaderLine, framesIn, firstPlace}
-use Rattle.session_reader.specs.Reading.{Reading, reading}
-use Rattle.session_reader.specs.Claims.{Good}
+use Rattle.session_claims.specs.Reading.{Reading, reading}
+use Rattle.session_claims.specs.Claims.{Good}
 use Rattle.session_reader.specs.declared.Answer.the-variants.{End}
-use Rattle.session_reader.proofs.Answers.{kind}
+use Rattle.session_claims.proofs.Answers.{kind}
 use Rattle.session_reader.proofs.Headers.{good-header, header-good, header-frames, header-place}
-use Rattle.session_reader.proofs.Rests.{restReading, rest-back, rest-only}
-use Rattle.session_reader.proofs.Readings.{reading-bad, reading-good}
+use Rattle.session_claims.proofs.Rests.{restReading, rest-back, rest-only}
+use Rattle.session_claims.proofs.Readings.{reading-bad, reading-good}
 
 -- the text of good frames is read back as these frames, and ends
 pub text-back : (fs : List (List ℕ)) → length fs ≤ mostFrames → Every Good fs → reading (sessionText fs) ≡ record { frames = fs; answer = End }

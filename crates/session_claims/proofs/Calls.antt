@@ -6,18 +6,18 @@ use native.Mathlib.Omega.{arith}
 use lib.ListN.{length}
 use denote.Ref.{now}
 use Rattle.session.specs.Format.{mostFrames}
 use Rattle.session_reader.specs.Steps.{stepAt}
 use Rattle.session_reader.specs.Readers.{handed}
-use Rattle.session_reader.specs.Reading.{Reading, onward, andThen, endsBy, readingFrom}
-use Rattle.session_reader.specs.Calls.{NextCalls, Observed, observed, shown, CallsRead}
+use Rattle.session_claims.specs.Reading.{Reading, onward, andThen, endsBy, readingFrom}
+use Rattle.session_claims.specs.Calls.{NextCalls, Observed, observed, shown, CallsRead}
 use Rattle.session_reader.specs.declared.Answer.{Answer}
 use Rattle.session_reader.specs.declared.Answer.the-variants.{Frame, End, Refused}
 use Rattle.session_reader.specs.declared.Step.{Step}
 use Rattle.session_reader.specs.declared.reader.Reader.{Reader}
 use Rattle.session_reader.specs.declared.reader.Handed.{Handed}
-use Rattle.session_reader.proofs.Answers.{kind}
-use Rattle.session_reader.proofs.Repeats.{step-stays}
-use Rattle.session_reader.proofs.Claims.{claims}
+use Rattle.session_claims.proofs.Answers.{kind}
+use Rattle.session_claims.proofs.Repeats.{step-stays}
+use Rattle.session_claims.proofs.Claims.{claims}
 
 -- an answer that is no frame ends a reading
 ends-onward : (a : Answer) (frame : List ℕ) (rest : Reading) → (a ≡ Frame → ⊥) → onward a frame rest ≡ endsBy a

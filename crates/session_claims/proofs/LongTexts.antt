@@ -8,17 +8,17 @@ use lib.Seq.{take-take}
 use Rattle.text.specs.Text.{ascii, decimal}
 use Rattle.text.proofs.Decimals.{decimal-length}
 use Rattle.session.specs.Format.{fileLine, orderLine, countLine, mostText}
 use Rattle.session_reader.specs.Lines.{digitsValue}
 use Rattle.session_reader.specs.Scans.{missingLine}
 use Rattle.session_reader.specs.Steps.{badHeaderLine, framesIn, firstPlace}
-use Rattle.session_reader.specs.Reading.{reading}
+use Rattle.session_claims.specs.Reading.{reading}
 use Rattle.session_reader.proofs.Scans.{begins-take}
 use Rattle.session_reader.proofs.Values.{value-fits}
 use Rattle.session_reader.proofs.HeaderLines.{missing-is, frames-is, first-is}
 use Rattle.session_reader.proofs.Headers.{good-header}
-use Rattle.session_reader.proofs.Rests.{restReading}
-use Rattle.session_reader.proofs.Readings.{reading-bad, reading-good}
-use Rattle.session_reader.proofs.FrontLines.{drop-take, rest-take}
+use Rattle.session_claims.proofs.Rests.{restReading}
+use Rattle.session_claims.proofs.Readings.{reading-bad, reading-good}
+use Rattle.session_claims.proofs.FrontLines.{drop-take, rest-take}
 
 -- a third line of a number of four digits has at most 12 bytes
 count-length : (n : ℕ) → n ≤ 9999 → length (countLine n) ≤ 12

@@ -9,16 +9,16 @@ use lib.ListN.{length, drop, length-append, length-drop, drop-of-length-le}
 use lib.Seq.{drop-cons, drop-drop}
 use borrow.Author.Tests.{ne-eqb, eqb-true, eqb-false}
 use Rattle.session.specs.Format.{header, mostFrames}
 use Rattle.session_reader.specs.Lines.{lineAt, frameOf, lineRefusal}
 use Rattle.session_reader.specs.Steps.{badHeaderLine, framesIn, firstPlace, stays, handedUnless, placeOf, frameStep, lastStep, stepAt}
-use Rattle.session_reader.specs.Reading.{Reading, andThen, endsBy, onward, readingFrom, reading}
+use Rattle.session_claims.specs.Reading.{Reading, andThen, endsBy, onward, readingFrom, reading}
 use Rattle.session_reader.specs.declared.Answer.the-variants.{End, Refused}
 use Rattle.session_reader.specs.declared.Step.{Step}
 use Rattle.session_reader.proofs.FrameScans.{frame-is}
 use Rattle.session_reader.proofs.Headers.{good-header}
-use Rattle.session_reader.proofs.Refusals.{Judged, judged}
-use Rattle.session_reader.proofs.Places.{last-step, frame-step}
-use Rattle.session_reader.proofs.Rests.{endAnswer, handed, restReading}
+use Rattle.session_claims.proofs.Refusals.{Judged, judged}
+use Rattle.session_claims.proofs.Places.{last-step, frame-step}
+use Rattle.session_claims.proofs.Rests.{endAnswer, handed, restReading}
 
 -- a bad line before the frames ends every reading
 reading-stops : (m : ℕ) (text : List ℕ) (at b : ℕ) → badHeaderLine text ≡ suc b → readingFrom m text at ≡ endsBy (Refused 8 (suc b))

@@ -4,14 +4,14 @@ use mathlib.Core.Path.{_≡_}
 use mathlib.Core.List.{List, [], _∷_, map}
 use lib.ListN.{length, replicate}
 use denote.Ref.{now}
 use Rattle.session_reader.specs.Readers.{handed}
-use Rattle.session_reader.specs.Reading.{reading}
+use Rattle.session_claims.specs.Reading.{reading}
 use Rattle.session_reader.specs.declared.Answer.{Answer}
 use Rattle.session_reader.specs.declared.Answer.the-variants.{Frame}
 use Rattle.session_reader.specs.declared.reader.Reader.{Reader}
 use Rattle.session_reader.specs.declared.reader.Handed.{Handed}
 
--- calls of `Reader::next`, each on the reader that the one before it handed back; the equation is the contract's (`Says.next-says`)
+-- calls of `Reader::next`, each on the reader that the one before it handed back; the equation is the contract's (`session_reader:Says.next-says`)
 abbrev pub NextCalls : Reader → List Handed → Type 0
 NextCalls r [] = Unit
 NextCalls r (h ∷ hs) = (h ≡ handed r) × NextCalls (h .rest) hs

@@ -5,21 +5,21 @@ use Prim.Native.Nat.{ℕ, zero, suc, _+_}
 use native.Mathlib.Omega.{arith}
 use lib.ListN.{drop}
 use Rattle.session.specs.Format.{frameLines, mostText}
 use Rattle.session_reader.specs.Steps.{badHeaderLine, framesIn, firstPlace, stepAt}
-use Rattle.session_reader.specs.Reading.{reading}
-use Rattle.session_reader.specs.Claims.{FirstBad, Claims}
+use Rattle.session_claims.specs.Reading.{reading}
+use Rattle.session_claims.specs.Claims.{FirstBad, Claims}
 use Rattle.session_reader.specs.declared.Answer.the-variants.{Frame, Refused}
 use Rattle.session_reader.specs.declared.Step.{Step}
-use Rattle.session_reader.proofs.Answers.{kind, refused-only}
+use Rattle.session_claims.proofs.Answers.{kind, refused-only}
 use Rattle.session_reader.proofs.Headers.{good-header}
-use Rattle.session_reader.proofs.Rests.{rest-ends}
-use Rattle.session_reader.proofs.Readings.{reading-bad, reading-good}
-use Rattle.session_reader.proofs.BadHeaders.{bad-header}
-use Rattle.session_reader.proofs.BadLines.{rest-refused}
-use Rattle.session_reader.proofs.Repeats.{step-stays}
-use Rattle.session_reader.proofs.LongTexts.{reading-take}
-use Rattle.session_reader.proofs.Roundtrips.{text-back, text-only}
-use Rattle.session_reader.proofs.Writers.{written-back, rewritten-back}
+use Rattle.session_claims.proofs.Rests.{rest-ends}
+use Rattle.session_claims.proofs.Readings.{reading-bad, reading-good}
+use Rattle.session_claims.proofs.BadHeaders.{bad-header}
+use Rattle.session_claims.proofs.BadLines.{rest-refused}
+use Rattle.session_claims.proofs.Repeats.{step-stays}
+use Rattle.session_claims.proofs.LongTexts.{reading-take}
+use Rattle.session_claims.proofs.Roundtrips.{text-back, text-only}
+use Rattle.session_claims.proofs.Writers.{written-back, rewritten-back}
 
 module _ (text : List ℕ) where
   -- a refusal is what the first bad line asks for

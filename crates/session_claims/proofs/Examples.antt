@@ -3,15 +3,15 @@ use mathlib.Core.Path.{refl}
 use Rattle.order.specs.Order.{bitAt}
 use Rattle.text.specs.Text.{digits, decimal}
 use Rattle.session.specs.Format.{countLine, hexText, frameLine, frameLines, header, sessionText}
 use Rattle.session_reader.specs.Lines.{lineOf, digitsValue, isCountLine, allHex, hexBytes, isFrameLine, frameOf}
 use Rattle.session_reader.specs.Steps.{badHeaderLine, framesIn, firstPlace, isPlace, frameStep, lastStep, stepAfter, stepAt}
-use Rattle.session_reader.specs.Examples.{Examples}
+use Rattle.session_claims.specs.Examples.{Examples}
 
 pub examples : Examples
 unfolding bitAt digits decimal countLine hexText frameLine frameLines header sessionText lineOf digitsValue isCountLine allHex hexBytes isFrameLine
     frameOf badHeaderLine framesIn firstPlace isPlace frameStep lastStep stepAfter stepAt
 examples = record {
-  good = record { text = refl; none = refl; first = refl; end = refl; end-of-none = refl };
+  good = record { first = refl; end = refl; end-of-none = refl };
   bad = record {
     empty = refl;
     another-file = refl;
@@ -19,6 +19,7 @@ examples = record {
     leading-zero = refl;
     two-zeros = refl;
     too-many = refl;
+    most-without-lines = refl;
     no-number = refl;
     upper-case = refl;
     carriage-return = refl;

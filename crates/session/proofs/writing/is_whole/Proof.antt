@@ -1,0 +1,10 @@
+-- `session::writing::is_whole` meets its contract: it is the two tests. Assumes nothing.
+use mathlib.Core.Path.{refl}
+use Rattle.session.proofs.writing.is_whole.Statement.{statement}
+use Rattle.session.proofs.writing.is_whole.Tie as tie
+
+returns : tie.Need-returns
+returns c = refl
+
+pub is-whole-spec : {M : Type 1} → statement M
+is-whole-spec = tie.close (tie.spec returns)

@@ -1,0 +1,15 @@
+pub mod Refusals
+pub mod Places
+pub mod Answers
+pub mod Rests
+pub mod Readings
+pub mod BadHeaders
+pub mod BadLines
+pub mod Repeats
+pub mod FrontLines
+pub mod LongTexts
+pub mod Roundtrips
+pub mod Writers
+pub mod Claims
+pub mod Calls
+pub mod Examples

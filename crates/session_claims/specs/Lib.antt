@@ -1,0 +1,4 @@
+pub mod Reading
+pub mod Claims
+pub mod Calls
+pub mod Examples
