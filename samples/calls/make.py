@@ -1,16 +1,16 @@
 #!/usr/bin/env python3
-"""make.py: writes clean.bin, first.bin and second.bin beside this file, and the stdin and stdout of crates/send.
+"""make.py: writes clean.bin, first.bin, first.session and second.bin beside this file, and the stdin and stdout of
+crates/send, crates/to_session and crates/from_session.
 
 Every run writes the same bytes. The sets are synthetic: nobody spoke, and no speech was measured for them. They
-follow the sounds of "sixteen" at 22.5 ms a frame. target/bin/send packs them, so run `rt check send` before.
+follow the sounds of "sixteen" at 22.5 ms a frame. target/bin/send packs them, and target/bin/to_session makes the
+session file, so run `rt check send to_session` before.
 """
 import os
 import subprocess
 
 HERE = os.path.dirname(os.path.abspath(__file__))
 ROOT = os.path.dirname(os.path.dirname(HERE))
-SEND = os.path.join(ROOT, "crates", "send")
-PACKER = os.path.join(ROOT, "target", "bin", "send")
 BITS = 54
 BYTES = 7
 SET = 11
@@ -61,21 +61,37 @@ def faded(call, fade):
     return bytes(frames)
 
 
-def write(folder, name, data):
-    with open(os.path.join(folder, name), "wb") as out:
+def made(program, data):
+    """What a proved program writes for these bytes."""
+    path = os.path.join(ROOT, "target", "bin", program)
+    return subprocess.run([path], input=data, stdout=subprocess.PIPE, check=True).stdout
+
+
+def write(name, data):
+    with open(os.path.join(HERE, name), "wb") as out:
         out.write(data)
+
+
+def store(crate, stdin, stdout):
+    """What the gate runs a program on, and what it must write."""
+    for name, data in (("stdin", stdin), ("stdout", stdout)):
+        write(os.path.join(ROOT, "crates", crate, name), data)
 
 
 def main():
     whole = b"".join(sets())
-    clean = subprocess.run([PACKER], input=whole, stdout=subprocess.PIPE, check=True).stdout
+    clean = made("send", whole)
     if len(clean) * SET != len(whole) * BYTES:
         raise SystemExit("a set was refused")
-    write(SEND, "stdin", whole)
-    write(SEND, "stdout", clean)
-    write(HERE, "clean.bin", clean)
-    write(HERE, "first.bin", faded(clean, FIRST_FADE))
-    write(HERE, "second.bin", faded(clean, SECOND_FADE))
+    first = faded(clean, FIRST_FADE)
+    file = made("to_session", first)
+    write("clean.bin", clean)
+    write("first.bin", first)
+    write("first.session", file)
+    write("second.bin", faded(clean, SECOND_FADE))
+    store("send", whole, clean)
+    store("to_session", first, file)
+    store("from_session", file, first)
 
 
 if __name__ == "__main__":
