@@ -67,15 +67,16 @@ def made(program, data):
     return subprocess.run([path], input=data, stdout=subprocess.PIPE, check=True).stdout
 
 
-def write(name, data):
-    with open(os.path.join(HERE, name), "wb") as out:
+def write(folder, name, data):
+    with open(os.path.join(folder, name), "wb") as out:
         out.write(data)
 
 
 def store(crate, stdin, stdout):
     """What the gate runs a program on, and what it must write."""
-    for name, data in (("stdin", stdin), ("stdout", stdout)):
-        write(os.path.join(ROOT, "crates", crate, name), data)
+    folder = os.path.join(ROOT, "crates", crate)
+    write(folder, "stdin", stdin)
+    write(folder, "stdout", stdout)
 
 
 def main():
@@ -85,10 +86,10 @@ def main():
         raise SystemExit("a set was refused")
     first = faded(clean, FIRST_FADE)
     file = made("to_session", first)
-    write("clean.bin", clean)
-    write("first.bin", first)
-    write("first.session", file)
-    write("second.bin", faded(clean, SECOND_FADE))
+    write(HERE, "clean.bin", clean)
+    write(HERE, "first.bin", first)
+    write(HERE, "first.session", file)
+    write(HERE, "second.bin", faded(clean, SECOND_FADE))
     store("send", whole, clean)
     store("to_session", first, file)
     store("from_session", file, first)
