@@ -9,12 +9,11 @@ use Rattle.text.specs.Text.{ascii, decimal}
 use Rattle.text.proofs.Decimals.{decimal-length}
 use Rattle.session.specs.Format.{fileLine, orderLine, countLine, mostText}
 use Rattle.session_reader.specs.Lines.{digitsValue}
-use Rattle.session_reader.specs.Scans.{missingLine}
 use Rattle.session_reader.specs.Steps.{badHeaderLine, framesIn, firstPlace}
 use Rattle.session_claims.specs.Reading.{reading}
 use Rattle.session_reader.proofs.Scans.{begins-take}
 use Rattle.session_reader.proofs.Values.{value-fits}
-use Rattle.session_reader.proofs.HeaderLines.{missing-is, frames-is, first-is}
+use Rattle.session_reader.proofs.HeaderLines.{bad-by, frames-is, first-is}
 use Rattle.session_reader.proofs.Headers.{good-header}
 use Rattle.session_claims.proofs.Rests.{restReading}
 use Rattle.session_claims.proofs.Readings.{reading-bad, reading-good}
@@ -40,17 +39,15 @@ module _ (text : List ℕ) (m : ℕ) (enough : mostText + 1 ≤ m) where
 
   -- the first bad line is the same
   bad-same : badHeaderLine (take m text) ≡ badHeaderLine text
-  unfolding missingLine
   bad-same =
-      let third : missingLine (take m text) n (countLine n) ≡ missingLine text n (countLine n) =
-      rw (
+      bad-by (take m text) n number-same
+      ∙ rw (
         begins-take fileLine text m (omega arith),
         drop-take 10 m text,
         begins-take orderLine (drop 10 text) (m - 10) (omega arith),
         drop-take 22 m text,
         begins-take (countLine n) (drop 22 text) (m - 22) (omega (arith, third-le)),
-      ) refl in
-      sym (missing-is (take m text) n number-same) ∙ third ∙ missing-is text n refl
+      ) (sym (bad-by text n refl))
 
   -- a long enough front of a text is read as the text
   pub reading-take : reading (take m text) ≡ reading text

@@ -12,7 +12,7 @@ use Rattle.bits.specs.Refusals.{firstRefusal}
 use Rattle.text.specs.Text.{ascii, decimal}
 use Rattle.session.specs.Format.{fileLine, orderLine, countLine, header, mostFrames}
 use Rattle.session_reader.specs.Lines.{lineOf, sameBytes, digitsValue, countOf, isCountLine}
-use Rattle.session_reader.specs.Scans.{begins, missingLine}
+use Rattle.session_reader.specs.Scans.{begins}
 use Rattle.session_reader.specs.Steps.{thirdLine, badHeaderLine, framesIn, firstPlace}
 use Rattle.session_reader.proofs.Scans.{begins-join}
 use Rattle.session_reader.proofs.WholeLines.{line-begins}
@@ -63,7 +63,7 @@ module _ (text : List ℕ) (n : ℕ) (is : n ≡ digitsValue 0 (take 4 (drop 29 
   number-is e = count-digits (drop 22 text) e ∙ ap (λ (l : List ℕ). digitsValue 0 (take 4 l)) (drop-drop 7 22 text) ∙ sym is
 
   -- the third line is good where it is that for the number which four digits at their place write
-  third-is : leb n mostFrames && begins (countLine n) (drop 22 text) ≡ isCountLine (thirdLine text)
+  pub third-is : leb n mostFrames && begins (countLine n) (drop 22 text) ≡ isCountLine (thirdLine text)
   unfolding isCountLine
   third-is = rw (count-begins (countOf (thirdLine text)) (drop 22 text)) (go (begins (ascii "frames=") (drop 22 text)) refl)
     where
@@ -75,10 +75,9 @@ module _ (text : List ℕ) (n : ℕ) (is : n ≡ digitsValue 0 (take 4 (drop 29 
       go true e = rw (number-is e) refl
       go false e = rw (name-begins n (drop 22 text), name-begins m (drop 22 text), e, and-false (leb n mostFrames), and-false (leb m mostFrames)) refl
 
-  -- the first line that is not at its place is the first bad one
-  pub missing-is : missingLine text n (countLine n) ≡ badHeaderLine text
-  unfolding missingLine
-  missing-is = ap (λ (c : Bool). firstOf (begins fileLine text) (begins orderLine (drop 10 text)) c) third-is ∙ sym (bad-is text)
+  -- the first bad line is the first that is not at its place
+  pub bad-by : badHeaderLine text ≡ firstOf (begins fileLine text) (begins orderLine (drop 10 text)) (leb n mostFrames && begins (countLine n) (drop 22 text))
+  bad-by = bad-is text ∙ ap (λ (c : Bool). firstOf (begins fileLine text) (begins orderLine (drop 10 text)) c) (sym third-is)
 
   -- three good lines promise as many frames as the digits write
   pub frames-is : badHeaderLine text ≡ 0 → framesIn text ≡ n

@@ -3,9 +3,11 @@ pub mod WholeLines
 pub mod Values
 pub mod Numbers
 pub mod Digits
+pub mod Turns
 pub mod CountLines
 pub mod HeaderLines
-pub mod QuickHeaders
+pub mod CountScans
+pub mod HeaderScans
 pub mod Headers
 pub mod Fronts
 pub mod HexDigits

@@ -18,7 +18,7 @@ abbrev pub ended : List ℕ → List ℕ
 ended body = body ++ (10 ∷ [])
 
 -- a test for equal numbers is that of their exchange
-eqb-comm : (a b : ℕ) → eqb a b ≡ eqb b a
+pub eqb-comm : (a b : ℕ) → eqb a b ≡ eqb b a
 eqb-comm a b = go (eqb a b) refl
   where
     go : (t : Bool) → eqb a b ≡ t → t ≡ eqb b a

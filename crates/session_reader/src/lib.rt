@@ -4,13 +4,11 @@
 //   reader  a lent text with an offset in it
 //   steps   the parser: what stands at an offset
 //   header  the three lines before the frames
-//   quick   three good lines, told at once
 //   frames  the line of a frame
 //   bytes   bytes of a text
 mod bytes;
 mod frames;
 mod header;
-mod quick;
 mod reader;
 mod steps;
 

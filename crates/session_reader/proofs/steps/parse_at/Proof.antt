@@ -27,7 +27,7 @@ returns c =
     (ne-eqb (badHeaderLine (a .text .now)) 0 (λ z. t .if1 .taken (bad ∙ z))))
 
 step-after-requires : tie.Need-step-after-requires
-step-after-requires c κs = c .before .before .read-header .ensures .1 .1 .1 .0
+step-after-requires c κs = c .before .before .read-header .ensures .1 .1 .1
 
 returns-2 : tie.Need-returns-2
 unfolding stepAt
