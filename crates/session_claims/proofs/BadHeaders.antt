@@ -8,14 +8,14 @@ use lib.ListN.{drop}
 use lib.Seq.{drop-drop}
 use Rattle.session.specs.Format.{fileLine, orderLine, countLine, mostFrames}
 use Rattle.text.specs.Text.{ascii}
-use Rattle.session_reader.specs.Lines.{lineOf, sameBytes, isCountLine}
-use Rattle.session_reader.specs.Scans.{begins}
-use Rattle.session_reader.specs.Steps.{thirdLine, badHeaderLine}
+use Rattle.session_lines.specs.Lines.{lineOf, sameBytes, isCountLine}
+use Rattle.session_lines.specs.Scans.{begins}
+use Rattle.session_lines.specs.Headers.{thirdLine, badHeaderLine}
 use Rattle.session_claims.specs.Claims.{FirstBad}
-use Rattle.session_reader.proofs.Scans.{begins-is}
-use Rattle.session_reader.proofs.WholeLines.{Plain, ended, line-begins, same-back}
-use Rattle.session_reader.proofs.CountLines.{count-good}
-use Rattle.session_reader.proofs.HeaderLines.{firstOf, bad-is}
+use Rattle.session_lines.proofs.Scans.{begins-is}
+use Rattle.session_lines.proofs.WholeLines.{Plain, ended, line-begins, same-back}
+use Rattle.session_lines.proofs.CountLines.{count-good}
+use Rattle.session_lines.proofs.HeaderLines.{firstOf, bad-is}
 
 -- a text that does not begin with a line has another first line
 other-line : (body t : List ℕ) → Plain body → begins (ended body) t ≡ false → lineOf t ≡ ended body → ⊥

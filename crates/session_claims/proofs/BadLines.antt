@@ -10,13 +10,13 @@ use Rattle.bits.specs.Lists.{Every}
 use Rattle.session.specs.Format.{header, frameLine, frameLines, sessionText, mostFrames}
 use Rattle.session.proofs.Elements.{every-append}
 use Rattle.session.proofs.Texts.{frame-lines-append}
-use Rattle.session_reader.specs.Lines.{lineOf, isFrameLine, frameOf, lineRefusal}
-use Rattle.session_reader.specs.Lines.{Seven}
+use Rattle.session_lines.specs.Lines.{lineOf, isFrameLine, frameOf, lineRefusal}
+use Rattle.session_lines.specs.Lines.{Seven}
 use Rattle.session_claims.specs.Claims.{Good, FirstBad}
 use Rattle.session_claims.specs.Reading.{Reading}
 use Rattle.session_reader.specs.declared.Answer.the-variants.{Refused}
 use Rattle.session_claims.proofs.Answers.{kind, refused-only}
-use Rattle.session_reader.proofs.FrameLines.{line-back, frame-back}
+use Rattle.session_lines.proofs.FrameLines.{line-back, frame-back}
 use Rattle.session_claims.proofs.Refusals.{Judged, judged}
 use Rattle.session_claims.proofs.Rests.{handed, restReading, taken-front}
 

@@ -5,13 +5,14 @@ use Prim.Native.Nat.{ℕ, zero, suc, _+_}
 use native.Mathlib.Omega.{arith}
 use lib.ListN.{drop}
 use Rattle.session.specs.Format.{frameLines, mostText}
-use Rattle.session_reader.specs.Steps.{badHeaderLine, framesIn, firstPlace, stepAt}
+use Rattle.session_lines.specs.Headers.{badHeaderLine, framesIn, firstPlace}
+use Rattle.session_reader.specs.Steps.{stepAt}
 use Rattle.session_claims.specs.Reading.{reading}
 use Rattle.session_claims.specs.Claims.{FirstBad, Claims}
 use Rattle.session_reader.specs.declared.Answer.the-variants.{Frame, Refused}
 use Rattle.session_reader.specs.declared.Step.{Step}
 use Rattle.session_claims.proofs.Answers.{kind, refused-only}
-use Rattle.session_reader.proofs.Headers.{good-header}
+use Rattle.session_lines.proofs.Headers.{good-header}
 use Rattle.session_claims.proofs.Rests.{rest-ends}
 use Rattle.session_claims.proofs.Readings.{reading-bad, reading-good}
 use Rattle.session_claims.proofs.BadHeaders.{bad-header}

@@ -3,8 +3,9 @@ use mathlib.Core.Path.{refl}
 use Rattle.order.specs.Order.{bitAt}
 use Rattle.text.specs.Text.{digits, decimal}
 use Rattle.session.specs.Format.{countLine, hexText, frameLine, frameLines, header, sessionText}
-use Rattle.session_reader.specs.Lines.{lineOf, digitsValue, isCountLine, allHex, hexBytes, isFrameLine, frameOf}
-use Rattle.session_reader.specs.Steps.{badHeaderLine, framesIn, firstPlace, isPlace, frameStep, lastStep, stepAfter, stepAt}
+use Rattle.session_lines.specs.Lines.{lineOf, digitsValue, isCountLine, allHex, hexBytes, isFrameLine, frameOf}
+use Rattle.session_lines.specs.Headers.{badHeaderLine, framesIn, firstPlace}
+use Rattle.session_reader.specs.Steps.{isPlace, frameStep, lastStep, stepAfter, stepAt}
 use Rattle.session_claims.specs.Examples.{Examples}
 
 pub examples : Examples

@@ -8,7 +8,7 @@ use native.Mathlib.Omega.{arith}
 use lib.Dec.{eqb}
 use lib.ListN.{take, drop}
 use lib.Seq.{take-nil, take-take}
-use Rattle.session_reader.specs.Lines.{lineOf, sameBytes, isFrameLine, frameOf}
+use Rattle.session_lines.specs.Lines.{lineOf, sameBytes, isFrameLine, frameOf}
 use Rattle.session_claims.proofs.Rests.{restReading}
 
 -- a part of a front is a front of the part

@@ -6,7 +6,8 @@ use Prim.Native.Nat.{ℕ, _+_, _-_, _*_, _/_, _%_, _≤_, _<_}
 use native.Mathlib.Omega.{arith}
 use lib.Dec.{eqb}
 use borrow.Author.Tests.{le-leb, eq-eqb, ne-eqb}
-use Rattle.session_reader.specs.Steps.{badHeaderLine, framesIn, firstPlace, placeOf, isPlace, frameStep, lastStep, placeStep, stepAfter, stepAt}
+use Rattle.session_lines.specs.Headers.{badHeaderLine, framesIn, firstPlace}
+use Rattle.session_reader.specs.Steps.{placeOf, isPlace, frameStep, lastStep, placeStep, stepAfter, stepAt}
 
 module _ (text : List ℕ) (k at : ℕ) (good : badHeaderLine text ≡ 0) (e : placeOf (firstPlace text) at ≡ firstPlace text + 17 * k) where
   -- the place of the line after those of k frames

@@ -5,8 +5,9 @@ use mathlib.Core.List.{List}
 use Prim.Native.Nat.{ℕ, zero, suc, _+_}
 use lib.Dec.{eqb}
 use lib.ListN.{length}
-use Rattle.session_reader.specs.Lines.{lineAt, frameOf, lineRefusal}
-use Rattle.session_reader.specs.Steps.{badHeaderLine, framesIn, firstPlace, stays, handedUnless, placeOf, framesBefore, isPlace}
+use Rattle.session_lines.specs.Lines.{lineAt, frameOf, lineRefusal}
+use Rattle.session_lines.specs.Headers.{badHeaderLine, framesIn, firstPlace}
+use Rattle.session_reader.specs.Steps.{stays, handedUnless, placeOf, framesBefore, isPlace}
 use Rattle.session_reader.specs.Steps.{frameStep, lastStep, placeStep, stepAfter, stepAt}
 use Rattle.session_reader.specs.declared.Answer.the-variants.{Frame, End, Refused}
 use Rattle.session_reader.specs.declared.Step.{Step}

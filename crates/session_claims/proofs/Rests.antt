@@ -8,14 +8,14 @@ use lib.ListN.{length, drop, take-append-drop}
 use lib.Seq.{drop-at}
 use Rattle.bits.specs.Lists.{Every}
 use Rattle.session.specs.Format.{frameLine, frameLines}
-use Rattle.session_reader.specs.Lines.{lineOf, isFrameLine, frameOf, lineRefusal}
+use Rattle.session_lines.specs.Lines.{lineOf, isFrameLine, frameOf, lineRefusal}
 use Rattle.session_claims.specs.Claims.{Good}
 use Rattle.session_claims.specs.Reading.{Reading, andThen, endsBy}
 use Rattle.session_reader.specs.declared.Answer.{Answer}
 use Rattle.session_reader.specs.declared.Answer.the-variants.{Frame, End, Refused}
 use Rattle.session_claims.proofs.Answers.{kind}
-use Rattle.session_reader.proofs.FrameLines.{line-back, frame-back, frame-line-first}
-use Rattle.session_reader.proofs.FrameScans.{frame-is}
+use Rattle.session_lines.proofs.FrameLines.{line-back, frame-back, frame-line-first}
+use Rattle.session_lines.proofs.FrameScans.{frame-is}
 use Rattle.session_claims.proofs.Refusals.{Judged, judged, good-seven, good-taken}
 
 -- the answer after the last of k frames

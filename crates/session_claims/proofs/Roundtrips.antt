@@ -7,12 +7,12 @@ use lib.ListN.{length, drop}
 use lib.Seq.{drop-append-seam}
 use Rattle.bits.specs.Lists.{Every}
 use Rattle.session.specs.Format.{header, frameLines, sessionText, mostFrames}
-use Rattle.session_reader.specs.Steps.{badHeaderLine, framesIn, firstPlace}
+use Rattle.session_lines.specs.Headers.{badHeaderLine, framesIn, firstPlace}
 use Rattle.session_claims.specs.Reading.{Reading, reading}
 use Rattle.session_claims.specs.Claims.{Good}
 use Rattle.session_reader.specs.declared.Answer.the-variants.{End}
 use Rattle.session_claims.proofs.Answers.{kind}
-use Rattle.session_reader.proofs.Headers.{good-header, header-good, header-frames, header-place}
+use Rattle.session_lines.proofs.Headers.{good-header, header-good, header-frames, header-place}
 use Rattle.session_claims.proofs.Rests.{restReading, rest-back, rest-only}
 use Rattle.session_claims.proofs.Readings.{reading-bad, reading-good}
 

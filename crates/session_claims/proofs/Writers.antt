@@ -17,7 +17,7 @@ use Rattle.session.proofs.Elements.{every-weaker}
 use Rattle.session.proofs.Frames.{whole-parts, frames-length, frames-seven, frames-joined, joined-frames}
 use Rattle.session.proofs.Padding.{good-is, good-only}
 use Rattle.session_claims.specs.Reading.{reading}
-use Rattle.session_reader.specs.Lines.{Seven}
+use Rattle.session_lines.specs.Lines.{Seven}
 use Rattle.session_claims.specs.Claims.{Good}
 use Rattle.session_reader.specs.declared.Answer.the-variants.{End}
 use Rattle.session_claims.proofs.Roundtrips.{text-back, text-only}

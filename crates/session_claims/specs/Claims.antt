@@ -9,7 +9,7 @@ use Rattle.order.specs.Order.{frameRefusal}
 use Rattle.session.specs.Format.{fileLine, orderLine, countLine, header, frameLine, frameLines, sessionText, mostFrames, mostText}
 use Rattle.session.specs.Writing.{framesOf, joined, isPadded, textOf, writeRefusal, writeAnswer, writeWrites}
 use Rattle.text.specs.declared.LineAnswer.the-variants.{Written}
-use Rattle.session_reader.specs.Lines.{lineOf, Seven}
+use Rattle.session_lines.specs.Lines.{lineOf, Seven}
 use Rattle.session_reader.specs.Steps.{stepAt}
 use Rattle.session_claims.specs.Reading.{reading}
 use Rattle.session_reader.specs.declared.Answer.{Answer}

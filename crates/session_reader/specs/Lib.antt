@@ -1,4 +1,2 @@
-pub mod Lines
 pub mod Steps
-pub mod Scans
 pub mod Readers

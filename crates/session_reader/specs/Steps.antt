@@ -1,36 +1,14 @@
 -- Document 02, T-01: what one step of reading answers, for any text and any offset in it.
 use Prim.Native.Nat.{ℕ, zero, suc, _+_, _-_, _/_, _%_}
-use mathlib.Core.Bool.{Bool, not, _&&_, cond}
-use mathlib.Core.List.{List, [], _∷_}
+use mathlib.Core.Bool.{Bool, _&&_, cond}
+use mathlib.Core.List.{List}
 use lib.Dec.{leb, eqb}
 use lib.ListN.{length, replicate}
-use Rattle.bits.specs.Refusals.{firstRefusal}
-use Rattle.session.specs.Format.{fileLine, orderLine, header}
-use Rattle.session_reader.specs.Lines.{lineAt, sameBytes, countOf, isCountLine, frameOf, lineRefusal}
+use Rattle.session_lines.specs.Lines.{lineAt, frameOf, lineRefusal}
+use Rattle.session_lines.specs.Headers.{badHeaderLine, framesIn, firstPlace}
 use Rattle.session_reader.specs.declared.Answer.{Answer}
 use Rattle.session_reader.specs.declared.Answer.the-variants.{Frame, End, Refused}
 use Rattle.session_reader.specs.declared.Step.{Step}
-
--- the third line
-abbrev pub thirdLine : List ℕ → List ℕ
-thirdLine text = lineAt text (length fileLine + length orderLine)
-
--- the first bad one of the three lines before the frames, 0 is none
-unfoldable pub badHeaderLine : List ℕ → ℕ
-badHeaderLine text =
-    firstRefusal
-    ((not (sameBytes (lineAt text 0) fileLine), 1)
-    ∷ (not (sameBytes (lineAt text (length fileLine)) orderLine), 2)
-    ∷ (not (isCountLine (thirdLine text)), 3)
-    ∷ [])
-
--- how many frames they promise
-unfoldable pub framesIn : List ℕ → ℕ
-framesIn text = countOf (thirdLine text)
-
--- where the first frame's line starts
-unfoldable pub firstPlace : List ℕ → ℕ
-firstPlace text = length (header (framesIn text))
 
 -- a step that hands on no frame: the offset stays
 abbrev pub stays : Answer → ℕ → Step

@@ -3,12 +3,6 @@
 //
 //   reader  a lent text with an offset in it
 //   steps   the parser: what stands at an offset
-//   header  the three lines before the frames
-//   frames  the line of a frame
-//   bytes   bytes of a text
-mod bytes;
-mod frames;
-mod header;
 mod reader;
 mod steps;
 

@@ -1,9 +1,8 @@
 // The parser: what stands at an offset of a text.
 use crate::Answer;
 use crate::Step;
-use crate::frames::frame_in;
-use crate::frames::is_frame_line;
-use crate::header::read_header;
+use session_lines::read_frame;
+use session_lines::read_header;
 ghost use mathlib.Core.Path.{_≡_};
 ghost use Prim.Native.Nat.{_+_, _≤_, _<_};
 ghost use Rattle.session_reader.specs.Steps.{stays, placeOf, isPlace, frameStep, lastStep, stepAfter, stepAt};
@@ -24,14 +23,12 @@ fn frame_step(text: &[u8], k: usize, at: usize, place: usize) -> Step
     requires { ⌜ k < 10000 ⌝ }
     ensures { λ r. ⌜ r ≡ frameStep (now (text .entry)) k at place ⌝ }
 {
-    let line = (k + 4) as u16;
-    if !is_frame_line(text, place) {
-        return stay(Answer::Refused(8, line), at);
+    let line = read_frame(text, place);
+    let n = line.refusal;
+    if n != 0 {
+        return stay(Answer::Refused(n, (k + 4) as u16), at);
     }
-    let frame = frame_in(text, place);
-    if frame[6] % 4 != 0 {
-        return stay(Answer::Refused(3, line), at);
-    }
+    let frame = line.frame;
     Step {
         answer: Answer::Frame,
         frame,

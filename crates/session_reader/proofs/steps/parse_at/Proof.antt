@@ -1,12 +1,36 @@
 -- `session_reader::steps::parse_at` meets its contract: the step after three good lines, or the first bad one. Assumes nothing.
-use mathlib.Core.Path.{sym, ap, _∙_}
-use mathlib.Core.Bool.{Bool, cond}
+use mathlib.Core.Path.{_≡_, sym, ap, _∙_}
+use mathlib.Core.Bool.{Bool, true, false, cond}
+use mathlib.Core.List.{List}
 use Prim.Native.Nat.{ℕ}
+use native.Mathlib.Omega.{arith}
+use lib.Dec.{eqb}
 use borrow.Author.Tests.{eq-eqb, ne-eqb}
-use Rattle.session_reader.specs.Steps.{badHeaderLine, firstPlace, framesIn, stays, stepAfter, stepAt}
+use Rattle.session_lines.specs.Headers.{badHeaderLine, framesIn, firstPlace}
+use Rattle.session_lines.specs.declared.header.Header.{Header}
+use Rattle.session_lines.proofs.Headers.{good-header}
+use Rattle.session_lines.proofs.LinesRead.{header-bad, header-told}
+use Rattle.session_reader.specs.Steps.{stays, stepAfter, stepAt}
 use Rattle.session_reader.specs.declared.Answer.the-variants.{Refused}
 use Rattle.session_reader.proofs.steps.parse_at.Statement.{statement}
 use Rattle.session_reader.proofs.steps.parse_at.Tie as tie
+
+-- the step by whether one of the three lines is bad
+by-bad : (text : List ℕ) (at : ℕ) (good : Bool) → good ≡ eqb (badHeaderLine text) 0
+    → cond good (stepAfter text (firstPlace text) (framesIn text) at) (stays (Refused 8 (badHeaderLine text)) at) ≡ stepAt text at
+unfolding stepAt
+by-bad text at good e = ap (λ (b : Bool). cond b (stepAfter text (firstPlace text) (framesIn text) at) (stays (Refused 8 (badHeaderLine text)) at)) e
+
+-- what the three lines have told
+module _ (c : tie.After-read-header) where
+  abbrev text : List ℕ
+  text = c .before .before .args .text .now
+
+  bad-is : c .read-header .result .bad ≡ badHeaderLine text
+  bad-is = ap (λ (h : Header). h .bad) (c .read-header .ensures) ∙ header-bad text
+
+  told : badHeaderLine text ≡ 0 → c .read-header .result ≡ record { bad = 0; frames = framesIn text; first = firstPlace text }
+  told e = c .read-header .ensures ∙ header-told text e
 
 read-header-requires : tie.Need-read-header-requires
 read-header-requires c κs = tt
@@ -15,31 +39,27 @@ stay-requires : tie.Need-stay-requires
 stay-requires c κs = tt
 
 returns : tie.Need-returns
-unfolding stepAt
 returns c =
-    let t = c .before in
-    let h = t .before .before in
-    let a = h .before .before .args in
-    let bad = h .read-header .ensures .0 in
+    let h = c .before .before .before in
+    let at = h .before .before .args .at in
     c .stay .ensures
-    ∙ ap (λ (n : ℕ). stays (Refused 8 n) (a .at)) bad
-    ∙ sym (ap (λ (b : Bool). cond b (stepAfter (a .text .now) (firstPlace (a .text .now)) (framesIn (a .text .now)) (a .at)) (stays (Refused 8 (badHeaderLine (a .text .now))) (a .at)))
-    (ne-eqb (badHeaderLine (a .text .now)) 0 (λ z. t .if1 .taken (bad ∙ z))))
+    ∙ ap (λ (n : ℕ). stays (Refused 8 n) at) (bad-is h)
+    ∙ by-bad (text h) at false (sym (ne-eqb (badHeaderLine (text h)) 0 (λ z. c .before .if1 .taken (bad-is h ∙ z))))
 
 step-after-requires : tie.Need-step-after-requires
-step-after-requires c κs = c .before .before .read-header .ensures .1 .1 .1
+step-after-requires c κs =
+    let h = c .before .before in
+    let good = sym (bad-is h) ∙ c .if1 .left in
+    omega (arith, ap (λ (t : Header). t .frames) (told h good), good-header (text h) good .1)
 
 returns-2 : tie.Need-returns-2
-unfolding stepAt
 returns-2 c =
-    let e = c .before in
-    let h = e .before .before in
-    let a = h .before .before .args in
-    let q = h .read-header .ensures in
+    let h = c .before .before .before in
+    let at = h .before .before .args .at in
+    let good = sym (bad-is h) ∙ c .before .if1 .left in
     c .step-after .ensures
-    ∙ (λ i. stepAfter (a .text .now) (q .1 .1 .0 (e .if1 .left) i) (q .1 .0 (e .if1 .left) i) (a .at))
-    ∙ sym (ap (λ (b : Bool). cond b (stepAfter (a .text .now) (firstPlace (a .text .now)) (framesIn (a .text .now)) (a .at)) (stays (Refused 8 (badHeaderLine (a .text .now))) (a .at)))
-    (eq-eqb (badHeaderLine (a .text .now)) 0 (sym (q .0) ∙ e .if1 .left)))
+    ∙ ap (λ (t : Header). stepAfter (text h) (t .first) (t .frames) at) (told h good)
+    ∙ by-bad (text h) at true (sym (eq-eqb (badHeaderLine (text h)) 0 good))
 
 pub parse-at-spec : {M : Type 1} → statement M
 parse-at-spec = tie.close (tie.spec read-header-requires stay-requires returns step-after-requires returns-2)

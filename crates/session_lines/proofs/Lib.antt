@@ -1,0 +1,17 @@
+pub mod Scans
+pub mod WholeLines
+pub mod Values
+pub mod Numbers
+pub mod Digits
+pub mod Turns
+pub mod CountLines
+pub mod HeaderLines
+pub mod CountScans
+pub mod HeaderScans
+pub mod Headers
+pub mod Fronts
+pub mod HexDigits
+pub mod HexBytes
+pub mod FrameLines
+pub mod FrameScans
+pub mod LinesRead
