@@ -1,4 +1,5 @@
-//! Document 02's T-01, a session file: frames as lines of text. Its writer, one step of its reader, and a whole reading.
+//! Document 02's T-01, a session file: frames as lines of text. Its writer, its lines judged, one step of its reader, and a
+//! whole reading.
 
 // Each program uses its part.
 #![allow(dead_code)]
@@ -79,7 +80,7 @@ fn count_of(line: &[u8]) -> Option<usize> {
 }
 
 /// How many frames the first three lines tell; refused at the first bad one.
-fn judge_header(text: &[u8]) -> Result<usize, BadLine> {
+pub fn judge_header(text: &[u8]) -> Result<usize, BadLine> {
     let mut lines = lines(text);
     if lines.next() != Some(b"file=melp\n") {
         return Err(malformed(1));
@@ -108,8 +109,14 @@ fn bytes_of(line: &[u8]) -> Option<[u8; FRAME]> {
     }))
 }
 
+/// The first line of a text with its end; nothing where the offset is past the text.
+pub fn line_at(text: &[u8], at: u64) -> &[u8] {
+    let rest = text.get(at as usize..).unwrap_or_default();
+    lines(rest).next().unwrap_or_default()
+}
+
 /// The frame on the line of that number: refused 8, then 3.
-fn judge_frame(text: &[u8], line: usize) -> Result<[u8; FRAME], BadLine> {
+pub fn judge_frame(text: &[u8], line: usize) -> Result<[u8; FRAME], BadLine> {
     let frame = bytes_of(text).ok_or(malformed(line))?;
     match melp::bits_of_frame(&frame) {
         Ok(_) => Ok(frame),

@@ -1,4 +1,4 @@
-//! Vectors of session files: a step of reading one, and writing one. Frames and texts are given by a rule.
+//! Vectors of session files: their lines, a step of reading one, and writing one. Frames and texts are given by a rule.
 
 use crate::codebook_vectors::NOWHERE;
 use crate::coder_vectors::HELD;
@@ -206,14 +206,20 @@ fn random_offset(random: &mut Random, line: u64) -> u64 {
     }
 }
 
-/// A vector of a step, mostly at frame i of a text or after the last one.
-fn step(random: &mut Random, kind: u8) -> Vector {
+/// A text, mostly changed around frame i or after the last one, and an offset there.
+fn random_place(random: &mut Random) -> (FileRule, u64) {
     let count = random_count(random);
     let last = count.min(MOST_FRAMES);
     let any = random.between(0, last as i64) as usize;
     let i = random.pick(&[any, any, any, 0, last, last + 1]);
     let file = random_file(random, count, i);
     let at = random_offset(random, file.start_of(i) as u64);
+    (file, at)
+}
+
+/// A vector of a step.
+fn step(random: &mut Random, kind: u8) -> Vector {
+    let (file, at) = random_place(random);
     step_vector(kind, &file, at)
 }
 
@@ -225,6 +231,52 @@ pub fn parse(random: &mut Random) -> Vector {
 /// A vector of the same step by a reader.
 pub fn read(random: &mut Random) -> Vector {
     step(random, 26)
+}
+
+// ---- Kinds 28 and 29: lines ----
+
+/// The vector of the three lines before the frames.
+fn header_vector(file: &FileRule) -> Vector {
+    let mut vector = vector_of(28);
+    file.put(&mut vector);
+    match session::judge_header(&file.text()) {
+        Err(bad) => put(&mut vector, 18, &(bad.line as u16).to_be_bytes()),
+        Ok(count) => {
+            let start = session::header(count).len();
+            put(&mut vector, 20, &(count as u16).to_be_bytes());
+            put(&mut vector, 22, &(start as u16).to_be_bytes());
+        }
+    }
+    vector
+}
+
+/// The vector of the line at an offset, where a frame's is due.
+fn line_vector(file: &FileRule, at: u64) -> Vector {
+    let mut vector = vector_of(29);
+    file.put(&mut vector);
+    put(&mut vector, 10, &at.to_be_bytes());
+    let text = file.text();
+    match session::judge_frame(session::line_at(&text, at), 0) {
+        Err(bad) => vector[18] = bad.refusal.number(),
+        Ok(frame) => put(&mut vector, 22, &frame),
+    }
+    vector
+}
+
+/// A vector of the three lines, half of them with another in the place of one.
+pub fn header(random: &mut Random) -> Vector {
+    let (file, _) = random_place(random);
+    let (number, line) = random.pick(&HEADER_LINES);
+    if random.once_in(2) {
+        return header_vector(&FileRule::new(file.count, 0).with_line(number, line));
+    }
+    header_vector(&file)
+}
+
+/// A vector of a frame's line.
+pub fn line(random: &mut Random) -> Vector {
+    let (file, at) = random_place(random);
+    line_vector(&file, at)
 }
 
 // ---- Kind 27: writing ----
@@ -428,13 +480,17 @@ fn writings() -> Vec<Writing> {
     [&counts[..], &sizes, &rooms, &padded, &others].concat()
 }
 
-/// All steps, parsed and by a reader in turn, and all writings.
+/// All steps, parsed and by a reader in turn; all writings; and the lines of all steps.
 pub fn conditions() -> Vec<Vector> {
-    let steps = [steps_in_files(), steps_with_lines()].concat();
-    let steps = steps.iter().zip([25, 26].iter().cycle());
+    let places = [steps_in_files(), steps_with_lines()].concat();
+    let steps = places.iter().zip([25, 26].iter().cycle());
     let steps = steps.map(|((file, at), kind)| step_vector(*kind, file, *at));
+    let headers = places.iter().map(|(file, _)| header_vector(file));
+    let lines = places.iter().map(|(file, at)| line_vector(file, *at));
     steps
         .chain(writings().iter().map(Writing::vector))
+        .chain(headers)
+        .chain(lines)
         .collect()
 }
 

@@ -27,7 +27,7 @@ use std::process::ExitCode;
 // ---- Kinds ----
 
 /// A maker of vectors of each kind, from kind 1 on.
-const MAKERS: [fn(&mut Random) -> Vector; 27] = [
+const MAKERS: [fn(&mut Random) -> Vector; 29] = [
     coder_vectors::pack,
     coder_vectors::class,
     coder_vectors::code,
@@ -55,6 +55,8 @@ const MAKERS: [fn(&mut Random) -> Vector; 27] = [
     session_vectors::parse,
     session_vectors::read,
     session_vectors::writing,
+    session_vectors::header,
+    session_vectors::line,
 ];
 
 /// One vector of a random kind, a quarter of them of receiving.
@@ -115,7 +117,9 @@ fn compared(vector: &Vector) -> Vec<usize> {
         25 | 26 => (18..=36).collect(),
         27 if is_given(18) => vec![18, 19, 20, 1, 2],
         27 => vec![18, 19, 20, 1, 2, 5, 6, 7, 8],
-        _ => unreachable!("the makers have 27 kinds"),
+        28 => (18..=23).collect(),
+        29 => once(18).chain(22..=28).collect(),
+        _ => unreachable!("the makers have 29 kinds"),
     }
 }
 
@@ -191,7 +195,7 @@ fn vectors_of_no_set(random: &mut Random) -> Vec<Vector> {
 
 /// Vectors of no kind, or with an argument that no vector has.
 fn bad_vectors(random: &mut Random) -> Vec<Vector> {
-    let mut vectors = vec![vector_of(0), vector_of(28), vector_of(255)];
+    let mut vectors = vec![vector_of(0), vector_of(30), vector_of(255)];
     let with = |kind: usize, at: usize, bytes: &[u8], random: &mut Random| {
         let mut vector = MAKERS[kind - 1](random);
         layout::put(&mut vector, at, bytes);

@@ -85,6 +85,8 @@ pub(crate) fn agrees(r: &[u8; 256]) -> bool {
         24 => parameters::writing_agrees(r),
         25 | 26 => sessions::step_agrees(r, kind),
         27 => sessions::write_agrees(r),
+        28 => sessions::header_agrees(r),
+        29 => sessions::line_agrees(r),
         _ => ranged_agrees(r, kind),
     }
 }

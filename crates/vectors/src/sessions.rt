@@ -1,4 +1,4 @@
-// Vectors of session files: a step of reading one, and writing one.
+// Vectors of session files: a step of reading one, writing one, and their lines.
 use crate::packing::HELD;
 use crate::session_texts::frame_byte;
 use crate::text_rule::front;
@@ -19,14 +19,19 @@ fn marks_agree(r: &[u8; 256], refusal: u8, handed_on: bool, line: u16) -> bool {
     (number(r, 18, 2) == joined(0, refusal, bit(handed_on))) & (number(r, 20, 2) == line as usize)
 }
 
-// Whether the answer of a step is the one in these bytes, and the frame beside it the one in bytes 22 to 28.
+// Whether the frame is the one in bytes 22 to 28.
+fn frame_agrees(r: &[u8; 256], frame: &[u8; 7]) -> bool {
+    bytes_agree(r, 22, frame)
+}
+
+// Whether the answer of a step is the one in these bytes, and the frame beside it is right too.
 fn answer_agrees(r: &[u8; 256], answer: Answer, frame: &[u8; 7]) -> bool {
     let marks = match answer {
         Answer::Frame => marks_agree(r, 0, true, 0),
         Answer::End => marks_agree(r, 0, false, 0),
         Answer::Refused(n, line) => marks_agree(r, refused(n), false, line),
     };
-    marks & bytes_agree(r, 22, frame)
+    marks & frame_agrees(r, frame)
 }
 
 // A step at an offset of a text: by the parser in kind 25, by a reader in kind 26.
@@ -102,4 +107,21 @@ pub(crate) fn write_agrees(r: &[u8; 256]) -> bool {
     let mut out = [HELD; 34100];
     let answer = session::write(front(&frames, size), &mut out[..room]);
     end_agrees(r, answer) & output_agrees(r, &out, room)
+}
+
+// Kind 28: the three lines before the frames; the bad one, how many frames there are, and where the first one's line starts.
+pub(crate) fn header_agrees(r: &[u8; 256]) -> bool {
+    let mut text = io::large_buffer();
+    let size = write_text(r, &mut text);
+    let header = session_lines::read_header(front(&text, size));
+    (number(r, 18, 2) == header.bad as usize) & (number(r, 20, 2) == header.frames) & (number(r, 22, 2) == header.first)
+}
+
+// Kind 29: the line at the offset in bytes 10 to 17, where a frame's is due; the refusal and the frame.
+pub(crate) fn line_agrees(r: &[u8; 256]) -> bool {
+    let mut text = io::large_buffer();
+    let size = write_text(r, &mut text);
+    let line = session_lines::read_frame(front(&text, size), number(r, 10, 8));
+    let frame = line.frame;
+    (byte(r, 18) == line.refusal) & frame_agrees(r, &frame)
 }
