@@ -114,7 +114,9 @@ pub(crate) fn header_agrees(r: &[u8; 256]) -> bool {
     let mut text = io::large_buffer();
     let size = write_text(r, &mut text);
     let header = session_lines::read_header(front(&text, size));
-    (number(r, 18, 2) == header.bad as usize) & (number(r, 20, 2) == header.frames) & (number(r, 22, 2) == header.first)
+    (number(r, 18, 2) == header.bad as usize)
+        & (number(r, 20, 2) == header.frames)
+        & (number(r, 22, 2) == header.first)
 }
 
 // Kind 29: the line at the offset in bytes 10 to 17, where a frame's is due; the refusal and the frame.
