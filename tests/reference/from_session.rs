@@ -3,6 +3,7 @@
 
 mod input;
 mod melp;
+mod program;
 mod session;
 
 use std::io::{self, Write};
@@ -113,25 +114,6 @@ fn steps_hold() -> bool {
         && BETWEEN.iter().all(|at| step(*at) == Err(0))
 }
 
-/// Print the outcome of the examples.
-fn selftest() -> ExitCode {
-    if !texts_hold() || !steps_hold() {
-        println!("an example fails");
-        return ExitCode::FAILURE;
-    }
-    println!("ok");
-    ExitCode::SUCCESS
-}
-
 fn main() -> ExitCode {
-    if std::env::args().nth(1).as_deref() == Some("selftest") {
-        return selftest();
-    }
-    match run() {
-        Ok(()) => ExitCode::SUCCESS,
-        Err(error) => {
-            eprintln!("from_session: {error}");
-            ExitCode::FAILURE
-        }
-    }
+    program::start("from_session", run, || texts_hold() && steps_hold())
 }

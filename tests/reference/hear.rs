@@ -3,6 +3,7 @@
 
 mod input;
 mod melp;
+mod program;
 
 use melp::{FrameResult, Kind, Set, Voicing};
 use std::io::{Result, Write};
@@ -73,30 +74,15 @@ fn run() -> Result<()> {
 }
 
 /// The document's example.
-fn selftest() -> ExitCode {
-    let printed = hear(&[0x80, 0x56, 0x0D, 0x40, 0x15, 0x00, 0x10]);
+fn example_holds() -> bool {
     let expected = "\
 grain=186 order=house
 frame=0 kind=U pitch=- lsf=90,0,0,0 bp=- fm=- ap=- g1=4071 g2=6282 sync=0 fixed=0 mute=0
 frames=1 repeats=0 left=0
 ";
-    if printed != expected {
-        println!("the example fails:\n{printed}");
-        return ExitCode::FAILURE;
-    }
-    println!("ok");
-    ExitCode::SUCCESS
+    hear(&[0x80, 0x56, 0x0D, 0x40, 0x15, 0x00, 0x10]) == expected
 }
 
 fn main() -> ExitCode {
-    if std::env::args().nth(1).as_deref() == Some("selftest") {
-        return selftest();
-    }
-    match run() {
-        Ok(()) => ExitCode::SUCCESS,
-        Err(error) => {
-            eprintln!("hear: {error}");
-            ExitCode::FAILURE
-        }
-    }
+    program::start("hear", run, example_holds)
 }

@@ -3,6 +3,7 @@
 
 mod input;
 mod melp;
+mod program;
 mod session;
 
 use melp::Refusal;
@@ -80,25 +81,6 @@ fn refusals_hold() -> bool {
         .all(|(frames, room, number)| written(frames, *room) == (Err(*number), vec![165; *room]))
 }
 
-/// Print the outcome of the examples.
-fn selftest() -> ExitCode {
-    if !files_hold() || !refusals_hold() {
-        println!("an example fails");
-        return ExitCode::FAILURE;
-    }
-    println!("ok");
-    ExitCode::SUCCESS
-}
-
 fn main() -> ExitCode {
-    if std::env::args().nth(1).as_deref() == Some("selftest") {
-        return selftest();
-    }
-    match run() {
-        Ok(()) => ExitCode::SUCCESS,
-        Err(error) => {
-            eprintln!("to_session: {error}");
-            ExitCode::FAILURE
-        }
-    }
+    program::start("to_session", run, || files_hold() && refusals_hold())
 }
