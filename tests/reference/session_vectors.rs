@@ -240,11 +240,14 @@ fn header_vector(file: &FileRule) -> Vector {
     let mut vector = vector_of(28);
     file.put(&mut vector);
     match session::judge_header(&file.text()) {
-        Err(bad) => put(&mut vector, 18, &(bad.line as u16).to_be_bytes()),
+        Err(bad) => {
+            vector[18] = bad.refusal.number();
+            put(&mut vector, 20, &(bad.line as u16).to_be_bytes());
+        }
         Ok(count) => {
             let start = session::header(count).len();
-            put(&mut vector, 20, &(count as u16).to_be_bytes());
-            put(&mut vector, 22, &(start as u16).to_be_bytes());
+            put(&mut vector, 22, &(count as u16).to_be_bytes());
+            put(&mut vector, 24, &(start as u16).to_be_bytes());
         }
     }
     vector

@@ -117,7 +117,7 @@ fn compared(vector: &Vector) -> Vec<usize> {
         25 | 26 => (18..=36).collect(),
         27 if is_given(18) => vec![18, 19, 20, 1, 2],
         27 => vec![18, 19, 20, 1, 2, 5, 6, 7, 8],
-        28 => (18..=23).collect(),
+        28 => once(18).chain(20..=25).collect(),
         29 => once(18).chain(22..=28).collect(),
         _ => unreachable!("the makers have 29 kinds"),
     }

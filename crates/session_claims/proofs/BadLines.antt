@@ -10,8 +10,7 @@ use Rattle.bits.specs.Lists.{Every}
 use Rattle.session.specs.Format.{header, frameLine, frameLines, sessionText, mostFrames}
 use Rattle.session.proofs.Elements.{every-append}
 use Rattle.session.proofs.Texts.{frame-lines-append}
-use Rattle.session_lines.specs.Lines.{lineOf, isFrameLine, frameOf, lineRefusal}
-use Rattle.session_lines.specs.Lines.{Seven}
+use Rattle.session_lines.specs.Lines.{lineOf, isFrameLine, frameOf, lineRefusal, Seven}
 use Rattle.session_claims.specs.Claims.{Good, FirstBad}
 use Rattle.session_claims.specs.Reading.{Reading}
 use Rattle.session_reader.specs.declared.Answer.the-variants.{Refused}

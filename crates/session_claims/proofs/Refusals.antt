@@ -7,8 +7,7 @@ use Rattle.bits.specs.Refusals.{firstRefusal}
 use Rattle.session.specs.Format.{frameLine}
 use Rattle.session.specs.Writing.{isPadded}
 use Rattle.session.proofs.Padding.{good-is, good-only}
-use Rattle.session_lines.specs.Lines.{isFrameLine, frameOf, lineRefusal}
-use Rattle.session_lines.specs.Lines.{Seven}
+use Rattle.session_lines.specs.Lines.{isFrameLine, frameOf, lineRefusal, Seven}
 use Rattle.session_claims.specs.Claims.{Good}
 use Rattle.session_lines.proofs.FrameLines.{line-back, frame-back}
 

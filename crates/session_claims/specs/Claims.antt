@@ -12,7 +12,6 @@ use Rattle.text.specs.declared.LineAnswer.the-variants.{Written}
 use Rattle.session_lines.specs.Lines.{lineOf, Seven}
 use Rattle.session_reader.specs.Steps.{stepAt}
 use Rattle.session_claims.specs.Reading.{reading}
-use Rattle.session_reader.specs.declared.Answer.{Answer}
 use Rattle.session_reader.specs.declared.Answer.the-variants.{Frame, End, Refused}
 
 -- a frame without padding bits

@@ -37,18 +37,18 @@ zero-front (suc k) n t cs h l = go (ltb n 10) refl (λ m. zero-front k (n / 10) 
     go false e f = ap (λ (w : List ℕ). begins w (48 ∷ cs)) (append-assoc (digits k (n / 10)) (digitByte (n % 10) ∷ []) t) ∙ f (ltb-false n 10 e)
 
 -- s digits in front of a text, none of them a `0` before another, and a line end after them
-abbrev pub ended : ℕ → List ℕ → Bool
-ended s t = (ltb 48 (getD t 0 0) || eqb s 1) && eqb (getD t s 0) 10
+abbrev pub wellEnded : ℕ → List ℕ → Bool
+wellEnded s t = (ltb 48 (getD t 0 0) || eqb s 1) && eqb (getD t s 0) 10
 
 -- so a text tells whether it begins with n as in decimal and a line end; where it does, s is the number of its digits
 abbrev Told : ℕ → ℕ → List ℕ → Type 0
-Told n s t = (begins (decimal n ++ (10 ∷ [])) t ≡ ended s t) × (ended s t ≡ true → length (decimal n) ≡ s)
+Told n s t = (begins (decimal n ++ (10 ∷ [])) t ≡ wellEnded s t) × (wellEnded s t ≡ true → length (decimal n) ≡ s)
 
 -- no digit
 none-told : (c : ℕ) (cs : List ℕ) → (c ≡ 48 → ⊥) → Told 0 0 (c ∷ cs)
 unfolding begins
 none-told c cs other =
-    let out : ended 0 (c ∷ cs) ≡ false = go (eqb c 10) refl in
+    let out : wellEnded 0 (c ∷ cs) ≡ false = go (eqb c 10) refl in
     (rw (decimal-one 0 (omega arith), ne-eqb 48 c (λ z. other (sym z))) (sym out), λ e. absurd (false≢true (sym out ∙ e)))
   where
     go : (t : Bool) → eqb c 10 ≡ t → (ltb 48 c || false) && t ≡ false
@@ -75,7 +75,7 @@ module _ (cs : List ℕ) where
   zero-told zero e = rw (digits-zero 0 (take 3 cs) e, decimal-one 0 (omega arith)) (front-ended 0 cs, λ t. refl)
   zero-told (suc m) e = (go (digitsValue 0 (take 3 cs)) ∙ sym out, λ t. absurd (false≢true (sym out ∙ t)))
     where
-      out : ended (suc (suc m)) (48 ∷ cs) ≡ false
+      out : wellEnded (suc (suc m)) (48 ∷ cs) ≡ false
       out = ap (λ (b : Bool). b && eqb (getD cs (suc m) 0) 10) (ne-eqb (suc (suc m)) 1 (λ z. omega arith))
 
       go : (n : ℕ) → begins (decimal n ++ (10 ∷ [])) (48 ∷ cs) ≡ false

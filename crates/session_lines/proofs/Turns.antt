@@ -6,8 +6,8 @@ use native.Mathlib.Omega.{arith}
 use lib.ListN.{length, take, drop, getD}
 use Rattle.session_lines.specs.Lines.{digitsValue}
 use Rattle.session_lines.specs.Scans.{digitsIn, Counted}
-use Rattle.session_lines.proofs.Values.{value-more, value-stop}
-use Rattle.session_lines.proofs.Digits.{digits-more, digits-stop}
+use Rattle.session_lines.proofs.Values.{value-more}
+use Rattle.session_lines.proofs.Digits.{digits-more, digits-stop, digits-zero}
 
 -- a value so far, and k digits at most to come from place i on
 abbrev pub Left : List ℕ → ℕ → ℕ → ℕ → Type 0
@@ -17,8 +17,8 @@ Left text value i k =
 
 module _ (text : List ℕ) (value i : ℕ) where
   -- no digit is to come
-  pub none-left : (k : ℕ) → Left text value i k → digitsValue value (take k (drop i text)) ≡ value → digitsIn (take k (drop i text)) ≡ 0 → Counted text value i
-  none-left k l v d = (sym (l .0 ∙ v), omega (arith, l .1, d))
+  pub none-left : (k : ℕ) → Left text value i k → digitsIn (take k (drop i text)) ≡ 0 → Counted text value i
+  none-left k l d = (sym (l .0 ∙ digits-zero value (take k (drop i text)) d), omega (arith, l .1, d))
 
   -- one digit more is left to take
   one-left : i < 33 → Left text value i (33 - i) → Left text value i (suc (33 - (i + 1)))
@@ -30,7 +30,7 @@ module _ (text : List ℕ) (value i : ℕ) where
   pub stopped : i < 33 → i < length text → (48 ≤ getD text i 0 → getD text i 0 ≤ 57 → ⊥) → Left text value i (33 - i) → Counted text value i
   stopped h room other l =
       let k = 33 - (i + 1) in
-      none-left (suc k) (one-left h l) (value-stop text i k value room other) (digits-stop text i k room other)
+      none-left (suc k) (one-left h l) (digits-stop text i k room other)
 
   -- a digit is taken
   pub taken : i < 33 → i < length text → 48 ≤ getD text i 0 → getD text i 0 ≤ 57 → Left text value i (33 - i)

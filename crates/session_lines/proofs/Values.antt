@@ -7,8 +7,8 @@ use native.Mathlib.Nat.{mul-one, mul-assoc, mul-le-mul-left, pow-zero, pow-succ'
 use native.Mathlib.Numerals.{add-one}
 use native.Mathlib.Omega.{arith}
 use lib.Dec.{leb, eqb}
-use lib.ListN.{length, getD, take, drop, drop-of-length-le}
-use lib.Seq.{drop-cons, take-nil}
+use lib.ListN.{length, getD, take, drop}
+use lib.Seq.{drop-cons}
 use borrow.Author.Tests.{le-leb, leb-true, eqb-true}
 use Rattle.session_lines.specs.Lines.{lineOf, digitsValue}
 
@@ -20,30 +20,11 @@ digit-cases P c digit other = go (leb 48 c && leb c 57) refl
     go true e = let p = and-eq-true-iff (leb 48 c) (leb c 57) .0 e in digit (leb-true 48 c (p .0)) (leb-true c 57 (p .1))
     go false e = other
 
-module _ (text : List ℕ) (i k v : ℕ) where
-  -- one digit more
-  pub value-more : i < length text → 48 ≤ getD text i 0 → getD text i 0 ≤ 57
-      → digitsValue v (take (suc k) (drop i text)) ≡ digitsValue (10 * v + (getD text i 0 - 48)) (take k (drop (i + 1) text))
-  unfolding digitsValue
-  value-more h low high = rw (add-one, drop-cons text i 0 h, le-leb 48 (getD text i 0) low, le-leb (getD text i 0) 57 high) refl
-
-  -- a byte that is no digit stops
-  pub value-stop : i < length text → (48 ≤ getD text i 0 → getD text i 0 ≤ 57 → ⊥) → digitsValue v (take (suc k) (drop i text)) ≡ v
-  unfolding digitsValue
-  value-stop h other =
-      rw (drop-cons text i 0 h)
-      (digit-cases (λ t. cond t (digitsValue (10 * v + (getD text i 0 - 48)) (take k (drop (suc i) text))) v ≡ v) (getD text i 0)
-      (λ low high. absurd (other low high)) refl)
-
-  -- the end of the text stops
-  pub value-out : length text ≤ i → digitsValue v (take k (drop i text)) ≡ v
-  unfolding digitsValue
-  value-out h = rw (drop-of-length-le text h, take-nil k) refl
-
--- after the last digit taken the value stands
-pub value-done : (v : ℕ) (t : List ℕ) → digitsValue v (take 0 t) ≡ v
+-- one digit more
+pub value-more : (text : List ℕ) (i k v : ℕ) → i < length text → 48 ≤ getD text i 0 → getD text i 0 ≤ 57
+    → digitsValue v (take (suc k) (drop i text)) ≡ digitsValue (10 * v + (getD text i 0 - 48)) (take k (drop (i + 1) text))
 unfolding digitsValue
-value-done v t = refl
+value-more text i k v h low high = rw (add-one, drop-cons text i 0 h, le-leb 48 (getD text i 0) low, le-leb (getD text i 0) 57 high) refl
 
 -- the value so far is no more than that of all digits
 pub value-le : (v : ℕ) (t : List ℕ) → v ≤ digitsValue v t

@@ -29,10 +29,10 @@ framesIn text = countOf (thirdLine text)
 unfoldable pub firstPlace : List ℕ → ℕ
 firstPlace text = length (header (framesIn text))
 
--- what they tell: the first bad one, or how many frames there are and where the first one's line starts
+-- what they tell: 8 and the first bad one, or how many frames there are and where the first one's line starts
 abbrev pub toldUnless : ℕ → List ℕ → Header
-toldUnless zero text = record { bad = 0; frames = framesIn text; first = firstPlace text }
-toldUnless (suc n) text = record { bad = suc n; frames = 0; first = 0 }
+toldUnless zero text = record { refusal = 0; line = 0; frames = framesIn text; first = firstPlace text }
+toldUnless (suc n) text = record { refusal = 8; line = suc n; frames = 0; first = 0 }
 
 unfoldable pub headerOf : List ℕ → Header
 headerOf text = toldUnless (badHeaderLine text) text

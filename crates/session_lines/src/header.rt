@@ -6,10 +6,11 @@ ghost use Rattle.session_lines.specs.Lines.{isCountLine};
 ghost use Rattle.session_lines.specs.Headers.{thirdLine, badHeaderLine, headerOf};
 ghost use Rattle.session_lines.specs.Scans.{Counted};
 
-// The first bad one of the lines, 0 for none; how many frames follow, and where the first one's line starts, both 0 where a
-// line is bad.
+// The refusal of the lines, 0 for none, and the bad one; how many frames follow, and where the first one's line starts, both
+// 0 where a line is bad.
 pub struct Header {
-    pub bad: u16,
+    pub refusal: u8,
+    pub line: u16,
     pub frames: usize,
     pub first: usize,
 }
@@ -73,7 +74,7 @@ fn bad_line(text: &[u8], value: usize, end: usize) -> u16
     0
 }
 
-// What the three lines of a text tell, each judged in turn.
+// What the three lines of a text tell, each judged in turn. Refused: 8, a bad one.
 pub fn read_header(text: &[u8]) -> Header
     ensures { λ r. ⌜ r ≡ headerOf (now (text .entry)) ⌝ }
 {
@@ -81,13 +82,15 @@ pub fn read_header(text: &[u8]) -> Header
     let bad = bad_line(text, count.value, count.end);
     if bad != 0 {
         return Header {
-            bad,
+            refusal: 8,
+            line: bad,
             frames: 0,
             first: 0,
         };
     }
     Header {
-        bad,
+        refusal: 0,
+        line: 0,
         frames: count.value,
         first: count.end + 1,
     }

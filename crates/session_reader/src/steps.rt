@@ -4,7 +4,7 @@ use crate::Step;
 use session_lines::read_frame;
 use session_lines::read_header;
 ghost use mathlib.Core.Path.{_≡_};
-ghost use Prim.Native.Nat.{_+_, _≤_, _<_};
+ghost use Prim.Native.Nat.{_<_};
 ghost use Rattle.session_reader.specs.Steps.{stays, placeOf, isPlace, frameStep, lastStep, stepAfter, stepAt};
 
 // A step that hands on no frame: the offset stays.
@@ -86,8 +86,9 @@ pub fn parse_at(text: &[u8], at: usize) -> Step
     ensures { λ r. ⌜ r ≡ stepAt (now (text .entry)) at ⌝ }
 {
     let header = read_header(text);
-    if header.bad != 0 {
-        return stay(Answer::Refused(8, header.bad), at);
+    let n = header.refusal;
+    if n != 0 {
+        return stay(Answer::Refused(n, header.line), at);
     }
     step_after(text, header.first, header.frames, at)
 }

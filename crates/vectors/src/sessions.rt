@@ -109,14 +109,16 @@ pub(crate) fn write_agrees(r: &[u8; 256]) -> bool {
     end_agrees(r, answer) & output_agrees(r, &out, room)
 }
 
-// Kind 28: the three lines before the frames; the bad one, how many frames there are, and where the first one's line starts.
+// Kind 28: the three lines before the frames; the refusal, the bad one, how many frames there are, and where the first one's
+// line starts.
 pub(crate) fn header_agrees(r: &[u8; 256]) -> bool {
     let mut text = io::large_buffer();
     let size = write_text(r, &mut text);
     let header = session_lines::read_header(front(&text, size));
-    (number(r, 18, 2) == header.bad as usize)
-        & (number(r, 20, 2) == header.frames)
-        & (number(r, 22, 2) == header.first)
+    (byte(r, 18) == header.refusal)
+        & (number(r, 20, 2) == header.line as usize)
+        & (number(r, 22, 2) == header.frames)
+        & (number(r, 24, 2) == header.first)
 }
 
 // Kind 29: the line at the offset in bytes 10 to 17, where a frame's is due; the refusal and the frame.

@@ -3,9 +3,8 @@ use mathlib.Core.Path.{_≡_, refl, ap, _∙_}
 use Prim.Native.Nat.{ℕ, _+_, _*_, _-_, _≤_, _<_}
 use native.Mathlib.Omega.{arith}
 use lib.ListN.{take, drop, getD}
-use Rattle.session_lines.specs.Lines.{digitsValue}
 use Rattle.session_lines.specs.Scans.{digitsIn}
-use Rattle.session_lines.proofs.Values.{value-out, value-done, value-le, value-fits}
+use Rattle.session_lines.proofs.Values.{value-le, value-fits}
 use Rattle.session_lines.proofs.Digits.{digits-out, digits-none}
 use Rattle.session_lines.proofs.Turns.{Left, none-left, stopped, taken}
 use Rattle.session_lines.proofs.header.count_in.Statement.{statement}
@@ -25,7 +24,7 @@ returns c =
     let L = c .before .before .loop in
     let text = c .before .before .before .args .text .now in
     let k = 33 - L .i in
-    (none-left text (L .value) (L .i) k (L .inv .3) (value-out text (L .i) k (L .value) (c .if1 .taken)) (digits-out text (L .i) k (c .if1 .taken)), L .inv .1)
+    (none-left text (L .value) (L .i) k (L .inv .3) (digits-out text (L .i) k (c .if1 .taken)), L .inv .1)
 
 shared-slice-read-c : tie.Need-shared-slice-read-c Inv-loop μ-loop
 shared-slice-read-c c = omega arith
@@ -75,7 +74,7 @@ returns-4 c =
     let text = c .before .before .args .text .now in
     let t = drop (L .i) text in
     let z : 33 - L .i ≡ 0 = omega (arith, c .loop-test .left) in
-    let all = none-left text (L .value) (L .i) (33 - L .i) (L .inv .3) (ap (λ (n : ℕ). digitsValue (L .value) (take n t)) z ∙ value-done (L .value) t) (ap (λ (n : ℕ). digitsIn (take n t)) z ∙ digits-none t) in
+    let all = none-left text (L .value) (L .i) (33 - L .i) (L .inv .3) (ap (λ (n : ℕ). digitsIn (take n t)) z ∙ digits-none t) in
     ((all .0, omega (arith, all .1, c .loop-test .left, L .inv .1)), omega arith)
 
 pub count-in-spec : {M : Type 1} → statement M

@@ -12,22 +12,18 @@ use Rattle.session.specs.Format.{mostFrames}
 use Rattle.session_lines.specs.Lines.{isCountLine}
 use Rattle.session_lines.specs.Scans.{begins, Counted}
 use Rattle.session_lines.specs.Headers.{thirdLine}
-use Rattle.session_lines.proofs.HeaderScans.{third-scan}
+use Rattle.session_lines.proofs.HeaderScans.{marks, third-scan}
 use Rattle.session_lines.proofs.header.is_count_line.Statement.{statement}
 use Rattle.session_lines.proofs.header.is_count_line.Tie as tie
 
 module _ (text : List ℕ) (n end : ℕ) (counted : Counted text n end) where
-  -- the number's own tests
-  abbrev marks : Bool
-  marks = (ltb 48 (getD text 29 0) || eqb end 30) && eqb (getD text end 0) 10
-
   -- the test by that of the name
-  by-name : (name : Bool) → name ≡ begins (ascii "frames=") (drop 22 text) → (leb n mostFrames && (name && marks)) ≡ isCountLine (thirdLine text)
-  by-name name e = ap (λ (b : Bool). leb n mostFrames && (b && marks)) e ∙ sym (third-scan text n end counted)
+  by-name : (name : Bool) → name ≡ begins (ascii "frames=") (drop 22 text) → (leb n mostFrames && (name && marks text end)) ≡ isCountLine (thirdLine text)
+  by-name name e = ap (λ (b : Bool). leb n mostFrames && (b && marks text end)) e ∙ sym (third-scan text n end counted)
 
-  -- where the text ends before the line does, no line end stands there
-  out : length text ≤ end → marks ≡ false
-  out h = ap (λ (c : ℕ). (ltb 48 (getD text 29 0) || eqb end 30) && eqb c 10) (List·getD-eq-default text 0 h) ∙ and-false (ltb 48 (getD text 29 0) || eqb end 30)
+-- where the text ends before the line does, no line end stands there
+out : (text : List ℕ) (end : ℕ) → length text ≤ end → marks text end ≡ false
+out text end h = ap (λ (c : ℕ). (ltb 48 (getD text 29 0) || eqb end 30) && eqb c 10) (List·getD-eq-default text 0 h) ∙ and-false (ltb 48 (getD text 29 0) || eqb end 30)
 
 slice-aggregate-has-bytes : tie.Need-slice-aggregate-has-bytes
 slice-aggregate-has-bytes c = omega arith
@@ -45,7 +41,7 @@ returns c =
 
 -- the name stands before the number
 named : (c : tie.Else1) → let s = c .before .before .before .before in
-    (leb (s .args .value) mostFrames && marks (s .args .text .now) (s .args .value) (s .args .end) (s .pre)) ≡ isCountLine (thirdLine (s .args .text .now))
+    (leb (s .args .value) mostFrames && marks (s .args .text .now) (s .args .end)) ≡ isCountLine (thirdLine (s .args .text .now))
 named c =
     let t = c .before in
     let s = t .before .before .before in
@@ -57,7 +53,7 @@ returns-2 c =
     let s = e .before .before .before .before in
     let a = s .args in
     sym (and-false (leb (a .value) mostFrames))
-    ∙ ap (λ (b : Bool). leb (a .value) mostFrames && b) (sym (out (a .text .now) (a .value) (a .end) (s .pre) (c .if2 .taken)))
+    ∙ ap (λ (b : Bool). leb (a .value) mostFrames && b) (sym (out (a .text .now) (a .end) (c .if2 .taken)))
     ∙ named e
 
 shared-slice-read-result : tie.Need-shared-slice-read-result

@@ -5,7 +5,6 @@ use Prim.Native.Nat.{ℕ, zero, suc, _+_}
 use native.Mathlib.Omega.{arith}
 use Rattle.session_lines.specs.Headers.{badHeaderLine, toldUnless, headerOf}
 use Rattle.session_lines.specs.Scans.{Counted}
-use Rattle.session_lines.specs.declared.header.Header.{Header}
 use Rattle.session_lines.proofs.HeaderLines.{frames-is}
 use Rattle.session_lines.proofs.HeaderScans.{scan-first}
 use Rattle.session_lines.proofs.header.read_header.Statement.{statement}
@@ -18,18 +17,18 @@ module _ (text : List ℕ) (bad : ℕ) (is : bad ≡ badHeaderLine text) where
   by-bad = ap (λ (n : ℕ). toldUnless n text) is
 
   -- a line is bad
-  refused : (bad ≡ 0 → ⊥) → record { bad = bad; frames = 0; first = 0 } ≡ headerOf text
+  refused : (bad ≡ 0 → ⊥) → record { refusal = 8; line = bad; frames = 0; first = 0 } ≡ headerOf text
   refused h = go bad h ∙ by-bad
     where
-      go : (n : ℕ) → (n ≡ 0 → ⊥) → record { bad = n; frames = 0; first = 0 } ≡ toldUnless n text
+      go : (n : ℕ) → (n ≡ 0 → ⊥) → record { refusal = 8; line = n; frames = 0; first = 0 } ≡ toldUnless n text
       go zero f = absurd (f refl)
       go (suc n) f = refl
 
   -- none is
-  told : (n end : ℕ) → Counted text n end → bad ≡ 0 → record { bad = bad; frames = n; first = end + 1 } ≡ headerOf text
+  told : (n end : ℕ) → Counted text n end → bad ≡ 0 → record { refusal = 0; line = 0; frames = n; first = end + 1 } ≡ headerOf text
   told n end counted z =
       let good = sym is ∙ z in
-      (λ i. record { bad = z i; frames = sym (frames-is text n (counted .0) good) i; first = sym (scan-first text n end counted good) i })
+      (λ i. record { refusal = 0; line = 0; frames = sym (frames-is text n (counted .0) good) i; first = sym (scan-first text n end counted good) i })
       ∙ ap (λ (k : ℕ). toldUnless k text) (sym z)
       ∙ by-bad
 

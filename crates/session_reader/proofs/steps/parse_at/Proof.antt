@@ -9,7 +9,7 @@ use borrow.Author.Tests.{eq-eqb, ne-eqb}
 use Rattle.session_lines.specs.Headers.{badHeaderLine, framesIn, firstPlace}
 use Rattle.session_lines.specs.declared.header.Header.{Header}
 use Rattle.session_lines.proofs.Headers.{good-header}
-use Rattle.session_lines.proofs.LinesRead.{header-bad, header-told}
+use Rattle.session_lines.proofs.LinesRead.{header-refused, header-taken}
 use Rattle.session_reader.specs.Steps.{stays, stepAfter, stepAt}
 use Rattle.session_reader.specs.declared.Answer.the-variants.{Refused}
 use Rattle.session_reader.proofs.steps.parse_at.Statement.{statement}
@@ -26,11 +26,20 @@ module _ (c : tie.After-read-header) where
   abbrev text : List ℕ
   text = c .before .before .args .text .now
 
-  bad-is : c .read-header .result .bad ≡ badHeaderLine text
-  bad-is = ap (λ (h : Header). h .bad) (c .read-header .ensures) ∙ header-bad text
+  abbrev said : Header
+  said = c .read-header .result
 
-  told : badHeaderLine text ≡ 0 → c .read-header .result ≡ record { bad = 0; frames = framesIn text; first = firstPlace text }
-  told e = c .read-header .ensures ∙ header-told text e
+  refused : (said .refusal ≡ 0 → ⊥) → (said ≡ record { refusal = 8; line = badHeaderLine text; frames = 0; first = 0 }) × (badHeaderLine text ≡ 0 → ⊥)
+  refused h =
+      let e = c .read-header .ensures in
+      let p = header-refused text (λ z. h (ap (λ (t : Header). t .refusal) e ∙ z)) in
+      (e ∙ p .0, p .1)
+
+  taken : said .refusal ≡ 0 → (said ≡ record { refusal = 0; line = 0; frames = framesIn text; first = firstPlace text }) × (badHeaderLine text ≡ 0)
+  taken z =
+      let e = c .read-header .ensures in
+      let p = header-taken text (sym (ap (λ (t : Header). t .refusal) e) ∙ z) in
+      (e ∙ p .0, p .1)
 
 read-header-requires : tie.Need-read-header-requires
 read-header-requires c κs = tt
@@ -40,26 +49,27 @@ stay-requires c κs = tt
 
 returns : tie.Need-returns
 returns c =
-    let h = c .before .before .before in
+    let h = c .before .before in
     let at = h .before .before .args .at in
+    let p = refused h (c .before .if1 .taken) in
     c .stay .ensures
-    ∙ ap (λ (n : ℕ). stays (Refused 8 n) at) (bad-is h)
-    ∙ by-bad (text h) at false (sym (ne-eqb (badHeaderLine (text h)) 0 (λ z. c .before .if1 .taken (bad-is h ∙ z))))
+    ∙ ap (λ (t : Header). stays (Refused (t .refusal) (t .line)) at) (p .0)
+    ∙ by-bad (text h) at false (sym (ne-eqb (badHeaderLine (text h)) 0 (p .1)))
 
 step-after-requires : tie.Need-step-after-requires
 step-after-requires c κs =
-    let h = c .before .before in
-    let good = sym (bad-is h) ∙ c .if1 .left in
-    omega (arith, ap (λ (t : Header). t .frames) (told h good), good-header (text h) good .1)
+    let h = c .before in
+    let p = taken h (c .if1 .left) in
+    omega (arith, ap (λ (t : Header). t .frames) (p .0), good-header (text h) (p .1) .1)
 
 returns-2 : tie.Need-returns-2
 returns-2 c =
-    let h = c .before .before .before in
+    let h = c .before .before in
     let at = h .before .before .args .at in
-    let good = sym (bad-is h) ∙ c .before .if1 .left in
+    let p = taken h (c .before .if1 .left) in
     c .step-after .ensures
-    ∙ ap (λ (t : Header). stepAfter (text h) (t .first) (t .frames) at) (told h good)
-    ∙ by-bad (text h) at true (sym (eq-eqb (badHeaderLine (text h)) 0 good))
+    ∙ ap (λ (t : Header). stepAfter (text h) (t .first) (t .frames) at) (p .0)
+    ∙ by-bad (text h) at true (sym (eq-eqb (badHeaderLine (text h)) 0 (p .1)))
 
 pub parse-at-spec : {M : Type 1} → statement M
 parse-at-spec = tie.close (tie.spec read-header-requires stay-requires returns step-after-requires returns-2)
