@@ -4,6 +4,7 @@ pub mod Columns
 pub mod Syndromes
 pub mod Sums
 pub mod Words
+pub mod Erasures
 pub mod Entries
 pub mod Parities
 pub mod Outcomes

@@ -1,9 +1,9 @@
--- What is asked for at every syndrome of every word: each bit's column flips that bit, parity bits included; an even one erases word A;
--- only zero and the spare's column let a word stand.
+-- What is asked for at every syndrome of every word: each bit's column flips that bit, parity bits included; an even one erases word A
+-- and the spare's column word B; only zero lets a word stand.
 -- Assumes nothing.
 use mathlib.Core.Path.{_≡_, refl, ap}
-use mathlib.Core.Bool.{Bool, true, false, _&&_, _||_, not}
-use mathlib.Core.List.{List, [], _∷_}
+use mathlib.Core.Bool.{Bool, false, _&&_}
+use mathlib.Core.List.{List}
 use Prim.Native.Nat.{ℕ, _%_, _≤_, _<_}
 use lib.Dec.{T, eqb, eqb→eq, ltb}
 use lib.ListN.{length}
@@ -11,12 +11,8 @@ use borrow.Author.Tests.{eq-eqb, ne-eqb}
 use Rattle.bits.specs.Bits.{ones, same}
 use Rattle.bits.proofs.Tests.{every, every-at}
 use Rattle.bits.proofs.Patterns.{allPatterns, all-patterns-at}
-use Rattle.hamming.specs.Word.{checkBits, column, parityOf, Fix, stand, flip, erase, fixOf}
+use Rattle.hamming.specs.Word.{checkBits, column, spareColumn, erases, Fix, stand, flip, erase, fixOf}
 use Rattle.hamming.proofs.Lengths.{lengths-at}
-
--- the column of word B's spare: what its fourth data bit would leave
-abbrev pub spareColumn : List Bool
-spareColumn = parityOf 6 (false ∷ false ∷ false ∷ true ∷ [])
 
 -- a request to flip bit k
 isFlip : ℕ → Fix → Bool
@@ -51,20 +47,20 @@ even-erases z h e = simp (ne-eqb (ones z) 0 h, eq-eqb (ones z % 2) 0 e)
 
 -- what each request says of its syndrome
 abbrev pub explains : ℕ → List Bool → Fix → Bool
-explains n z stand = eqb (ones z) 0 || (eqb n 6 && same z spareColumn)
+explains n z stand = eqb (ones z) 0
 explains n z (flip k) = ltb k n && same z (column n k)
-explains n z erase = eqb n 8 && (eqb (ones z % 2) 0 && not (eqb (ones z) 0))
+explains n z erase = erases n z
 
 -- the request at a syndrome is explained by it
 explained : ℕ → List Bool → Bool
 explained n z = explains n z (fixOf n z)
 
--- every syndrome of every word: it stands for zero or the spare's column in word B, a flip for that bit's column, an erasure for an even one in word A
+-- every syndrome of every word: it stands for zero, a flip for that bit's column, an erasure for one that erases
 pub fix-explains : (n : ℕ) → 6 ≤ n → n ≤ 8 → (z : List Bool) → length z ≡ checkBits n → T (explains n z (fixOf n z))
 unfolding explained fixOf
 fix-explains n l m z h = all-patterns-at (checkBits n) (explained n) (lengths-at (λ n. allPatterns (checkBits n) (explained n)) tt n l m) z h
 
--- the spare's column is in word B no bit's own: the data stand, nothing repaired
-pub spare-stands : fixOf 6 spareColumn ≡ stand
+-- the spare's column erases word B
+pub spare-erases : fixOf 6 spareColumn ≡ erase
 unfolding fixOf
-spare-stands = refl
+spare-erases = refl

@@ -1,6 +1,6 @@
 -- Document 01, "The four words" (MIL-STD-3005, 5.4). A word is given by its length n: eight bits (A), six (B), seven (C and D).
 use Prim.Native.Nat.{ℕ, zero, suc, _-_, _%_, _^_, _≤_, _<_}
-use mathlib.Core.Bool.{Bool, false, not, cond, _&&_}
+use mathlib.Core.Bool.{Bool, true, false, not, cond, _&&_, _||_}
 use mathlib.Core.List.{List, [], _∷_, _++_}
 use lib.Dec.{eqb}
 use lib.ListN.{take, drop, replicate}
@@ -62,20 +62,28 @@ flipAt (suc k) (b ∷ bs) = b ∷ flipAt k bs
 abbrev pub column : ℕ → ℕ → List Bool
 column n k = syndrome n (flipAt k (replicate n false))
 
+-- the column of word B's spare: the parity that its fourth data bit, which is not sent, would leave
+abbrev pub spareColumn : List Bool
+spareColumn = parityOf 6 (false ∷ false ∷ false ∷ true ∷ [])
+
+-- which syndromes erase the frame: in word A a nonzero one with an even number of ones; in word B the column of the spare (document 02, T-02)
+abbrev pub erases : ℕ → List Bool → Bool
+erases n z = (eqb n 8 && (not (eqb (ones z) 0) && eqb (ones z % 2) 0)) || (eqb n 6 && same z spareColumn)
+
+-- the first of m bits from k on whose column is z
+abbrev pub bitFrom : ℕ → List Bool → ℕ → ℕ → ℕ
+bitFrom n z zero k = k
+bitFrom n z (suc m) k = cond (same (column n k) z) k (bitFrom n z m (suc k))
+
 -- what a syndrome asks for: the word stands, bit k is flipped back, or the frame is erased
 pub data Fix : Type 0 where
   stand : Fix
   flip : ℕ → Fix
   erase : Fix
 
--- the first of m bits from k on whose column is z; where there is none, z is the column of word B's spare and the data stand as received
-abbrev pub flipFrom : ℕ → List Bool → ℕ → ℕ → Fix
-flipFrom n z zero k = stand
-flipFrom n z (suc m) k = cond (same (column n k) z) (flip k) (flipFrom n z m (suc k))
-
--- zero: the word stands; in word A a nonzero syndrome with an even number of ones: erased; else the bit whose column it is
+-- zero: the word stands; one that erases: erased; any other is the column of one of the n bits, which is flipped back
 unfoldable pub fixOf : ℕ → List Bool → Fix
-fixOf n z = cond (eqb (ones z) 0) stand (cond (eqb n 8 && eqb (ones z % 2) 0) erase (flipFrom n z n 0))
+fixOf n z = cond (eqb (ones z) 0) stand (cond (erases n z) erase (flip (bitFrom n z n 0)))
 
 -- the outcome of the word when that is done: its data as a number, and 1 where a bit was repaired
 abbrev pub mend : ℕ → List Bool → Fix → Decoded

@@ -69,7 +69,7 @@ const ERASE: u8 = 9;
 // The table of tables: a row for the words of six, seven and eight bits, in it for each syndrome the
 // bit to flip, counted from the first, or a mark. Three parity bits fill half a row, so it has them twice.
 const FIXES: [[u8; 16]; 3] = [
-    [8, 5, 4, 2, 3, 1, 0, 8, 8, 5, 4, 2, 3, 1, 0, 8],
+    [8, 5, 4, 2, 3, 1, 0, 9, 8, 5, 4, 2, 3, 1, 0, 9],
     [8, 6, 5, 2, 4, 1, 0, 3, 8, 6, 5, 2, 4, 1, 0, 3],
     [8, 7, 6, 9, 5, 9, 9, 2, 4, 9, 9, 1, 9, 0, 3, 9],
 ];

@@ -2,3 +2,4 @@ pub mod Shifts
 pub mod Outcomes
 pub mod Extent
 pub mod Ranges
+pub mod Erasures
