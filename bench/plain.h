@@ -68,7 +68,7 @@ enum { STANDS = 8, ERASES = 9 };
 
 /* The bit to flip by syndrome, counted from the word's first, for words of six, seven and eight bits. */
 static const uint8_t FLIP[3][16] = {
-    {STANDS, 5, 4, 2, 3, 1, 0, STANDS},
+    {STANDS, 5, 4, 2, 3, 1, 0, ERASES},
     {STANDS, 6, 5, 2, 4, 1, 0, 3},
     {STANDS, 7, 6, ERASES, 5, ERASES, ERASES, 2, 4, ERASES, ERASES, 1, ERASES, 0, 3, ERASES},
 };
@@ -87,7 +87,7 @@ static inline bool repair(unsigned word, unsigned length, unsigned *data, unsign
     return true;
 }
 
-/* The data of words A to D, repaired; false where A erases the frame. Adds to `repaired`. */
+/* The data of words A to D, repaired; false where A or B erases the frame. Adds to `repaired`. */
 static inline bool repair_words(uint64_t bits, unsigned data[4], unsigned *repaired)
 {
     return repair(field(bits, WORD_A, 8), 8, &data[0], repaired) &&

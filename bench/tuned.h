@@ -101,6 +101,9 @@ static const uint8_t FLIP[8] = {0, 0, 0, 2, 0, 4, 8, 1};
 /* The same for word A, whose even syndromes erase the frame. */
 static const uint8_t FLIP_A[16] = {0, 0, 0, X, 0, X, X, 2, 0, X, X, 4, X, 8, 1, X};
 
+/* The syndrome of word B's spare, which erases the frame. */
+enum { SPARE = 7 };
+
 /* Syndrome of a word with three parity bits. */
 static inline unsigned syndrome(unsigned data, unsigned parity)
 {
@@ -116,13 +119,15 @@ static inline bool repair_words(uint64_t bits, unsigned data[4], unsigned *repai
     if (FLIP_A[in_a] == X)
         return false;
     unsigned in_b = syndrome(b, field(bits, WORD_B + 3, 3));
+    if (in_b == SPARE)
+        return false;
     unsigned in_c = syndrome(c, field(bits, WORD_C + 4, 3));
     unsigned in_d = syndrome(d, field(bits, WORD_D + 4, 3));
     data[0] = a ^ FLIP_A[in_a];
-    data[1] = (b ^ FLIP[in_b]) >> 1; /* The spare falls off, and its syndrome 7 repairs nothing. */
+    data[1] = (b ^ FLIP[in_b]) >> 1; /* The spare falls off. */
     data[2] = c ^ FLIP[in_c];
     data[3] = d ^ FLIP[in_d];
-    *repaired += (in_a != 0) + (in_b != 0 && in_b != 7) + (in_c != 0) + (in_d != 0);
+    *repaired += (in_a != 0) + (in_b != 0) + (in_c != 0) + (in_d != 0);
     return true;
 }
 

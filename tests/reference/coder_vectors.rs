@@ -2,7 +2,7 @@
 
 use crate::frames::{self, random_received, random_set};
 use crate::layout::{bits_of_word, put, put_answer, vector_of, word_of, Vector};
-use crate::melp::{self, Content, PitchClass, Set, WordReading};
+use crate::melp::{self, Content, PitchClass, Set, Voicing, WordReading};
 use crate::random::Random;
 use crate::set_bytes::bytes_of;
 
@@ -101,10 +101,9 @@ fn random_bits(random: &mut Random, bits: usize) -> (u8, Vec<u8>) {
     (number, melp::bits_of(number, bits as u32))
 }
 
-/// A vector of reading a word.
-pub fn word(random: &mut Random) -> Vector {
-    let length: usize = random.pick(&[6, 7, 8]);
-    let (number, word) = random_bits(random, length);
+/// The vector of reading the word in the lowest bits of a number.
+fn word_vector(length: usize, number: u8) -> Vector {
+    let word = melp::bits_of(number, length as u32);
     let mut vector = vector_of(4);
     put(&mut vector, 1, &[length as u8, number]);
     match melp::decode_word(length, &word) {
@@ -114,6 +113,13 @@ pub fn word(random: &mut Random) -> Vector {
         }
     }
     vector
+}
+
+/// A vector of reading a word.
+pub fn word(random: &mut Random) -> Vector {
+    let length: usize = random.pick(&[6, 7, 8]);
+    let (number, _) = random_bits(random, length);
+    word_vector(length, number)
 }
 
 /// A vector of the parity of a word.
@@ -182,9 +188,8 @@ pub fn ranges(random: &mut Random) -> Vector {
 
 // ---- Kind 13: reading ----
 
-/// A vector of what 54 bits are read as.
-pub fn reading(random: &mut Random) -> Vector {
-    let word = random_word(random);
+/// The vector of what the bits in a number are read as.
+fn reading_vector(word: u64) -> Vector {
     let mut vector = vector_of(13);
     put(&mut vector, 1, &word.to_be_bytes());
     match melp::read_bits(&bits_of_word(word)).expect("a pitch code of seven bits") {
@@ -195,4 +200,65 @@ pub fn reading(random: &mut Random) -> Vector {
         }
     }
     vector
+}
+
+/// A vector of what 54 bits are read as.
+pub fn reading(random: &mut Random) -> Vector {
+    reading_vector(random_word(random))
+}
+
+// ---- The spare's syndrome ----
+
+/// Every word of six and of seven bits whose three parity bits are all wrong: in word B the spare's syndrome, in C and D
+/// that of u3.
+fn spare_words() -> Vec<Vector> {
+    let mut vectors = Vec::new();
+    for length in [6, 7] {
+        let data_bits = melp::data_count(length);
+        for data in 0..1u8 << data_bits {
+            let sent = melp::encode_word(length, &melp::bits_of(data, data_bits as u32));
+            vectors.push(word_vector(length, melp::number_of(&sent) ^ 0b111));
+        }
+    }
+    vectors
+}
+
+/// The frame of a set with some logical bits flipped, as a number.
+fn flipped_word(set: &Set, flips: &[usize]) -> u64 {
+    let frame = melp::frame_of(set, 0).expect("a set in range");
+    let logical = melp::bits_of_frame(&frame).expect("a frame");
+    let flip = |word, j: &usize| word ^ 1 << (53 - j);
+    flips.iter().fold(word_of(&logical), flip)
+}
+
+/// Frames of an unvoiced and of a voiced set with the spare's syndrome in each way; word A without a flip, with one, with two.
+fn spare_frames() -> Vec<Vector> {
+    let unvoiced = Set {
+        lsf: [87, 41, 23, 10],
+        g2: 17,
+        g1: 5,
+        voicing: None,
+    };
+    let voiced = Set {
+        voicing: Some(Voicing {
+            pitch: 42,
+            bandpass: 10,
+            fourier: 200,
+            aperiodic: 1,
+        }),
+        ..unvoiced
+    };
+    let mut vectors = Vec::new();
+    for set in [unvoiced, voiced] {
+        for in_a in [&[][..], &[0], &[0, 1]] {
+            let word = |in_b| flipped_word(&set, &[in_a, in_b].concat());
+            vectors.extend(frames::SPARE_FLIPS.map(|in_b| reading_vector(word(in_b))));
+        }
+    }
+    vectors
+}
+
+/// Words and frames with the spare's syndrome, and words of seven bits with the same one.
+pub fn conditions() -> Vec<Vector> {
+    [spare_words(), spare_frames()].concat()
 }

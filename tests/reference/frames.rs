@@ -9,6 +9,9 @@ use crate::random::Random;
 /// First and last logical bit of words A to D and of the pitch code.
 const FIELDS: [(usize, usize); 5] = [(0, 7), (8, 13), (14, 20), (21, 27), (28, 34)];
 
+/// Logical bits of word B that together leave its spare's syndrome, 111: a data bit and a parity bit, or all parity bits.
+pub const SPARE_FLIPS: [&[usize]; 4] = [&[8, 13], &[9, 12], &[10, 11], &[11, 12, 13]];
+
 /// What the channel does to a frame.
 #[derive(Clone, Copy)]
 pub enum Damage {
@@ -22,6 +25,8 @@ pub enum Damage {
     OneInEach,
     /// Two flips in word A, which erase an unvoiced frame.
     TwoInWordA,
+    /// Flips in word B that leave its spare's syndrome, which erase an unvoiced frame, by their number in `SPARE_FLIPS`.
+    SpareOfB(usize),
     /// Two flips in the pitch code, which erase an unvoiced frame.
     TwoInPitchCode,
     /// Flips in one word or in the pitch code, by its number in `FIELDS`.
@@ -83,6 +88,11 @@ fn one_in_each(random: &mut Random) -> Vec<usize> {
     flips
 }
 
+/// One of the ways to leave the spare's syndrome.
+pub fn random_spare(random: &mut Random) -> Damage {
+    Damage::SpareOfB(random.below(SPARE_FLIPS.len() as u64) as usize)
+}
+
 /// One of the kinds of damage, drawn anew.
 fn random_damage(random: &mut Random) -> Damage {
     match random.below(10) {
@@ -90,7 +100,10 @@ fn random_damage(random: &mut Random) -> Damage {
         1 => Damage::Anywhere,
         2 => Damage::Burst,
         3 | 4 => Damage::OneInEach,
-        5 | 6 => random.pick(&[Damage::TwoInWordA, Damage::TwoInPitchCode]),
+        5 | 6 => {
+            let spare = random_spare(random);
+            random.pick(&[Damage::TwoInWordA, spare, Damage::TwoInPitchCode])
+        }
         _ => Damage::OneField(random.below(FIELDS.len() as u64) as usize),
     }
 }
@@ -106,6 +119,10 @@ fn flips(random: &mut Random, damage: Damage, count: usize) -> Vec<usize> {
         }
         Damage::OneInEach => one_in_each(random),
         Damage::TwoInWordA => random.some_of(&places_of_field(0), 2),
+        Damage::SpareOfB(way) => SPARE_FLIPS[way]
+            .iter()
+            .map(|j| melp::place_of(*j))
+            .collect(),
         Damage::TwoInPitchCode => random.some_of(&places_of_field(4), 2),
         Damage::OneField(field) => random.some_of(&places_of_field(field), count),
         Damage::Any => {

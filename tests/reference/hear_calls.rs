@@ -20,6 +20,8 @@ const LENGTHS: [usize; 24] = [
 enum Stretch {
     /// Frames of random sets, each with damage of one kind.
     Sent(Damage),
+    /// Flips in each word B that leave its spare's syndrome.
+    SpareOfB,
     /// Two ones in each pitch code.
     Erased,
     /// Erased frames among sent and refused ones, so that about half of the latest 16 are repeats.
@@ -31,7 +33,7 @@ enum Stretch {
 }
 
 /// All kinds of stretches.
-const STRETCHES: [Stretch; 11] = [
+const STRETCHES: [Stretch; 12] = [
     Stretch::Sent(Damage::None),
     Stretch::Sent(Damage::Any),
     Stretch::Sent(Damage::Anywhere),
@@ -39,6 +41,7 @@ const STRETCHES: [Stretch; 11] = [
     Stretch::Sent(Damage::OneInEach),
     Stretch::Sent(Damage::TwoInWordA),
     Stretch::Sent(Damage::TwoInPitchCode),
+    Stretch::SpareOfB,
     Stretch::Erased,
     Stretch::Fading,
     Stretch::AnyBits,
@@ -67,6 +70,10 @@ impl Link {
     fn frame(&mut self, stretch: Stretch) -> [u8; 7] {
         match stretch {
             Stretch::Sent(damage) => self.sent(damage, true),
+            Stretch::SpareOfB => {
+                let damage = frames::random_spare(&mut self.random);
+                self.sent(damage, true)
+            }
             Stretch::Erased => self.sent(Damage::TwoInPitchCode, false),
             Stretch::Fading => {
                 let sent = Stretch::Sent(Damage::OneInEach);

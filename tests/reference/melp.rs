@@ -216,7 +216,12 @@ fn word_data(length: usize, word: &[u8], repaired: u8) -> WordReading {
     }
 }
 
-/// Read a received word: let it stand, erase it or flip one bit back.
+/// Column of the six-bit word's spare, its fourth data bit, which is not sent.
+fn spare_column() -> Vec<u8> {
+    (0..parity_count(6)).map(|row| EQUATIONS[row][3]).collect()
+}
+
+/// Read a received word: let it stand, erase it or flip one bit back. The spare's column erases by document 02, T-02.
 pub fn decode_word(length: usize, word: &[u8]) -> WordReading {
     assert_eq!(word.len(), length);
     let syndrome = syndrome(length, word);
@@ -226,15 +231,15 @@ pub fn decode_word(length: usize, word: &[u8]) -> WordReading {
     if length == 8 && ones(&syndrome) % 2 == 0 {
         return WordReading::Erased;
     }
-    match (0..length).find(|p| column(length, *p) == syndrome) {
-        Some(position) => {
-            let mut mended = word.to_vec();
-            mended[position] = 1 - mended[position];
-            word_data(length, &mended, 1)
-        }
-        // Only the spare's column in the six-bit word is left.
-        None => word_data(length, word, 0),
+    if length == 6 && syndrome == spare_column() {
+        return WordReading::Erased;
     }
+    let wrong = (0..length)
+        .find(|p| column(length, *p) == syndrome)
+        .expect("every other syndrome is the column of a sent bit");
+    let mut mended = word.to_vec();
+    mended[wrong] = 1 - mended[wrong];
+    word_data(length, &mended, 1)
 }
 
 // ---- Gain levels (5.3.3, section "Gain levels") ----

@@ -145,6 +145,7 @@ fn good_vectors(random: &mut Random) -> Vec<Vector> {
     for maker in MAKERS {
         vectors.extend((0..7).map(|_| maker(random)));
     }
+    vectors.extend(coder_vectors::conditions());
     vectors.extend(codebook_vectors::conditions());
     vectors.extend(text_vectors::conditions());
     vectors.extend(set_vectors::conditions());
@@ -242,8 +243,8 @@ fn selftest() -> ExitCode {
             println!("ok");
             ExitCode::SUCCESS
         }
-        Some(number) => {
-            println!("example {number} fails");
+        Some(name) => {
+            println!("example {name} fails");
             ExitCode::FAILURE
         }
     }

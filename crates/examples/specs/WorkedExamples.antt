@@ -1,11 +1,14 @@
 -- Worked examples of our own, beside document 01's nine: in each a slip in definition and code together shows. Numbers are worked out by hand
--- from document 01.
+-- from the documents.
 use Prim.Native.Nat.{ℕ}
 use mathlib.Core.Path.{_≡_}
 use mathlib.Core.Bool.{true, false}
 use mathlib.Core.List.{List, [], _∷_}
 use lib.IntN.{pos}
 use lib.ListN.{replicate}
+use Rattle.bits.specs.Bits.{bits}
+use Rattle.hamming.specs.Word.{encode, flipAt, decode}
+use Rattle.hamming.specs.declared.Decoded.the-variants.{Erased}
 use Rattle.order.specs.Order.{defaultOrder}
 use Rattle.sets.specs.declared.ParameterSet.{ParameterSet}
 use Rattle.sets.specs.declared.ParameterSet.the-variants.{Voiced}
@@ -18,7 +21,7 @@ use Rattle.records.specs.declared.Record.{Record}
 use Rattle.receiver.specs.Receiving.{receiveRefusal, receive}
 use Rattle.receiver.specs.declared.Kind.the-variants as kind
 use Rattle.receiver.specs.declared.ReceiveAnswer.the-variants.{Result}
-use Rattle.examples.specs.Examples.{ninetyBytes, changed}
+use Rattle.examples.specs.Examples.{ninety, ninetyBytes, zeros, changed}
 
 -- a voiced set with fields all different, its bandpass bits B given
 abbrev pub voiced : ℕ → ParameterSet
@@ -63,6 +66,29 @@ pub record RecordRange : Type 0 where
   pub highest : receiveRefusal (kept 31) ninetyBytes ≡ 0
   pub past : receiveRefusal (kept 32) ninetyBytes ≡ 4
 
+-- document 02, T-02, by example 6's frame: u0 and p2 of its word B, at places 2 and 37, leave the column of the spare, 111, and the frame is
+-- a repeat; u3 of its word C, at place 11, leaves 111 too and is put right
+pub record SpareSyndrome : Type 0 where
+  pub erased : decode 6 (flipAt 0 (flipAt 5 (encode 6 (bits 3 0b010)))) ≡ Erased
+  pub repeats : receive defaultOrder fresh (changed (2 ∷ 37 ∷ [])) .answer ≡ Result (record {
+    kind = kind.Repeat;
+    set = zeros;
+    first = 1860;
+    second = 1860;
+    mute = false;
+    sync = false;
+    repaired = 0;
+  })
+  pub repaired : receive defaultOrder fresh (changed (11 ∷ [])) .answer ≡ Result (record {
+    kind = kind.Unvoiced;
+    set = ninety;
+    first = 4071;
+    second = 6282;
+    mute = false;
+    sync = false;
+    repaired = 1;
+  })
+
 -- first levels at the mean, 5880 where q = 9 and 5679 where q = 8: steady for a distance of 2, and for one of 3 the fourth of the seven levels
 pub record Distance : Type 0 where
   pub two : chooseAnswer (pos 5880) (pos 6282) 9 ≡ Codes 11 0
@@ -91,5 +117,6 @@ pub record WorkedExamples : Type 0 where
   pub voiced-set : VoicedSet
   pub repeat : Repeat
   pub record-range : RecordRange
+  pub spare-syndrome : SpareSyndrome
   pub distance : Distance
   pub limits : Limits
