@@ -1,6 +1,6 @@
 #!/usr/bin/env python3
-"""make.py: writes clean.bin, first.bin, first.session and second.bin beside this file, and the stdin and stdout of
-crates/send, crates/to_session and crates/from_session.
+"""make.py: writes clean.bin, first.bin, first.session, second.bin and third.bin beside this file, and the stdin and
+stdout of crates/send, crates/to_session and crates/from_session.
 
 Every run writes the same bytes. The sets are synthetic: nobody spoke, and no speech was measured for them. They
 follow the sounds of "sixteen" at 22.5 ms a frame. target/bin/send packs them, and target/bin/to_session makes the
@@ -27,11 +27,13 @@ SOUNDS = (
 )
 
 # The logical bits that a fade flips, by frame; it falls on "x, t". Word A is 0 to 7, B 8 to 13, C 14 to 20, D 21 to 27,
-# the pitch code 28 to 34. First at most one in each of them, then two in word A of every frame.
+# the pitch code 28 to 34. First at most one in each of them, then two in word A of every frame, then a data bit and a
+# parity bit of word B in two frames, which together leave the syndrome of its spare.
 FIRST_FADE = {
     13: (30,), 14: (2,), 15: (16,), 16: (5, 24), 17: (9,), 18: (12, 20, 33), 19: (27,), 20: (14,), 21: (7, 31),
 }
 SECOND_FADE = {frame: (frame % 4, 4 + frame % 3) for frame in range(13, 23)}
+THIRD_FADE = {16: (8, 13), 19: (9, 12)}
 
 
 def between(ends, at, frames):
@@ -90,6 +92,7 @@ def main():
     write(HERE, "first.bin", first)
     write(HERE, "first.session", file)
     write(HERE, "second.bin", faded(clean, SECOND_FADE))
+    write(HERE, "third.bin", faded(clean, THIRD_FADE))
     store("send", whole, clean)
     store("to_session", first, file)
     store("from_session", file, first)

@@ -21,7 +21,7 @@ worked-examples = record {
   voiced-set = record { answer = refl; packed = refl; received = refl; bandpass-one = refl };
   repeat = record { level-kept = refl };
   record-range = record { highest = refl; past = refl };
-  spare-syndrome = record { erased = refl; repeats = refl; repaired = refl };
+  spare-syndrome = record { erased = refl; in-seven-bits = refl; repeats = refl; repaired = refl };
   distance = record { two = refl; three = refl };
   limits = record {
     highest = refl;

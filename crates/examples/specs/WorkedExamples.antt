@@ -8,7 +8,7 @@ use lib.IntN.{pos}
 use lib.ListN.{replicate}
 use Rattle.bits.specs.Bits.{bits}
 use Rattle.hamming.specs.Word.{encode, flipAt, decode}
-use Rattle.hamming.specs.declared.Decoded.the-variants.{Erased}
+use Rattle.hamming.specs.declared.Decoded.the-variants.{Read, Erased}
 use Rattle.order.specs.Order.{defaultOrder}
 use Rattle.sets.specs.declared.ParameterSet.{ParameterSet}
 use Rattle.sets.specs.declared.ParameterSet.the-variants.{Voiced}
@@ -70,6 +70,7 @@ pub record RecordRange : Type 0 where
 -- a repeat; u3 of its word C, at place 11, leaves 111 too and is put right
 pub record SpareSyndrome : Type 0 where
   pub erased : decode 6 (flipAt 0 (flipAt 5 (encode 6 (bits 3 0b010)))) ≡ Erased
+  pub in-seven-bits : decode 7 (flipAt 3 (encode 7 (bits 4 0b0101))) ≡ Read 0b0101 1
   pub repeats : receive defaultOrder fresh (changed (2 ∷ 37 ∷ [])) .answer ≡ Result (record {
     kind = kind.Repeat;
     set = zeros;

@@ -4,11 +4,10 @@ use mathlib.Core.Path.{_≡_, refl, sym, ap, ap₂, _∙_, subst}
 use mathlib.Core.Bool.{Bool, true, false, false≢true, Bool·beq}
 use mathlib.Core.List.{List}
 use Prim.Native.Nat.{ℕ, _+_, _≤_}
-use lib.Dec.{T}
 use lib.ListN.{length, length-append}
-use Rattle.bits.specs.Bits.{_⊕_, ones, value, bits}
+use Rattle.bits.specs.Bits.{_⊕_, ones, value}
 use Rattle.bits.proofs.Count.{⊕-length}
-use Rattle.bits.proofs.Patterns.{patterns, patterns-at, allPatterns, all-patterns-at, beq-eq}
+use Rattle.bits.proofs.Patterns.{allPatterns, all-patterns-at, beq-eq}
 use Rattle.bits.proofs.Digits.{bits-value}
 use Rattle.hamming.specs.Word.{checkBits, dataBits, parityOf, encode, syndrome, erases, Fix, stand, flip, erase, fixOf, mend, decode}
 use Rattle.hamming.specs.declared.Decoded.{Decoded}
