@@ -2,9 +2,10 @@
 
 use crate::frames::{self, random_received, random_set};
 use crate::layout::{bits_of_word, put, put_answer, vector_of, word_of, Vector};
-use crate::melp::{self, Content, PitchClass, Set, Voicing, WordReading};
+use crate::melp::{self, Content, PitchClass, Set, WordReading};
 use crate::random::Random;
-use crate::set_bytes::bytes_of;
+use crate::set_bytes::{bytes_of, set_of};
+use crate::set_vectors::SETS;
 
 /// What each byte of an output holds before a call.
 pub const HELD: u8 = 165;
@@ -92,13 +93,13 @@ pub fn code(random: &mut Random) -> Vector {
 
 // ---- Kinds 4 and 5: words ----
 
-/// A number and what its lowest bits are; often there are others.
-fn random_bits(random: &mut Random, bits: usize) -> (u8, Vec<u8>) {
+/// A number whose lowest bits are asked for; often it has others.
+fn random_bits(random: &mut Random, bits: usize) -> u8 {
     let mut number = random.inside(255);
     if random.once_in(2) {
         number &= ((1u32 << bits) - 1) as u8;
     }
-    (number, melp::bits_of(number, bits as u32))
+    number
 }
 
 /// The vector of reading the word in the lowest bits of a number.
@@ -118,14 +119,15 @@ fn word_vector(length: usize, number: u8) -> Vector {
 /// A vector of reading a word.
 pub fn word(random: &mut Random) -> Vector {
     let length: usize = random.pick(&[6, 7, 8]);
-    let (number, _) = random_bits(random, length);
-    word_vector(length, number)
+    word_vector(length, random_bits(random, length))
 }
 
 /// A vector of the parity of a word.
 pub fn parity(random: &mut Random) -> Vector {
     let length: usize = random.pick(&[6, 7, 8]);
-    let (number, data) = random_bits(random, melp::data_count(length));
+    let data_bits = melp::data_count(length);
+    let number = random_bits(random, data_bits);
+    let data = melp::bits_of(number, data_bits as u32);
     let parity = melp::number_of(&melp::parity(length, &data));
     let mut vector = vector_of(5);
     put(&mut vector, 1, &[length as u8, number, parity]);
@@ -233,23 +235,9 @@ fn flipped_word(set: &Set, flips: &[usize]) -> u64 {
 
 /// Frames of an unvoiced and of a voiced set with the spare's syndrome in each way; word A without a flip, with one, with two.
 fn spare_frames() -> Vec<Vector> {
-    let unvoiced = Set {
-        lsf: [87, 41, 23, 10],
-        g2: 17,
-        g1: 5,
-        voicing: None,
-    };
-    let voiced = Set {
-        voicing: Some(Voicing {
-            pitch: 42,
-            bandpass: 10,
-            fourier: 200,
-            aperiodic: 1,
-        }),
-        ..unvoiced
-    };
     let mut vectors = Vec::new();
-    for set in [unvoiced, voiced] {
+    for bytes in SETS {
+        let set = set_of(&bytes).expect("the bytes of a set");
         for in_a in [&[][..], &[0], &[0, 1]] {
             let word = |in_b| flipped_word(&set, &[in_a, in_b].concat());
             vectors.extend(frames::SPARE_FLIPS.map(|in_b| reading_vector(word(in_b))));

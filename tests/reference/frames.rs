@@ -25,8 +25,8 @@ pub enum Damage {
     OneInEach,
     /// Two flips in word A, which erase an unvoiced frame.
     TwoInWordA,
-    /// Flips in word B that leave its spare's syndrome, which erase an unvoiced frame, by their number in `SPARE_FLIPS`.
-    SpareOfB(usize),
+    /// Flips in word B that leave its spare's syndrome, which erase an unvoiced frame.
+    SpareOfB,
     /// Two flips in the pitch code, which erase an unvoiced frame.
     TwoInPitchCode,
     /// Flips in one word or in the pitch code, by its number in `FIELDS`.
@@ -88,11 +88,6 @@ fn one_in_each(random: &mut Random) -> Vec<usize> {
     flips
 }
 
-/// One of the ways to leave the spare's syndrome.
-pub fn random_spare(random: &mut Random) -> Damage {
-    Damage::SpareOfB(random.below(SPARE_FLIPS.len() as u64) as usize)
-}
-
 /// One of the kinds of damage, drawn anew.
 fn random_damage(random: &mut Random) -> Damage {
     match random.below(10) {
@@ -100,10 +95,7 @@ fn random_damage(random: &mut Random) -> Damage {
         1 => Damage::Anywhere,
         2 => Damage::Burst,
         3 | 4 => Damage::OneInEach,
-        5 | 6 => {
-            let spare = random_spare(random);
-            random.pick(&[Damage::TwoInWordA, spare, Damage::TwoInPitchCode])
-        }
+        5 | 6 => random.pick(&[Damage::TwoInWordA, Damage::SpareOfB, Damage::TwoInPitchCode]),
         _ => Damage::OneField(random.below(FIELDS.len() as u64) as usize),
     }
 }
@@ -119,10 +111,10 @@ fn flips(random: &mut Random, damage: Damage, count: usize) -> Vec<usize> {
         }
         Damage::OneInEach => one_in_each(random),
         Damage::TwoInWordA => random.some_of(&places_of_field(0), 2),
-        Damage::SpareOfB(way) => SPARE_FLIPS[way]
-            .iter()
-            .map(|j| melp::place_of(*j))
-            .collect(),
+        Damage::SpareOfB => {
+            let bits = random.pick(&SPARE_FLIPS);
+            bits.iter().map(|j| melp::place_of(*j)).collect()
+        }
         Damage::TwoInPitchCode => random.some_of(&places_of_field(4), 2),
         Damage::OneField(field) => random.some_of(&places_of_field(field), count),
         Damage::Any => {

@@ -20,8 +20,6 @@ const LENGTHS: [usize; 24] = [
 enum Stretch {
     /// Frames of random sets, each with damage of one kind.
     Sent(Damage),
-    /// Flips in each word B that leave its spare's syndrome.
-    SpareOfB,
     /// Two ones in each pitch code.
     Erased,
     /// Erased frames among sent and refused ones, so that about half of the latest 16 are repeats.
@@ -40,8 +38,8 @@ const STRETCHES: [Stretch; 12] = [
     Stretch::Sent(Damage::Burst),
     Stretch::Sent(Damage::OneInEach),
     Stretch::Sent(Damage::TwoInWordA),
+    Stretch::Sent(Damage::SpareOfB),
     Stretch::Sent(Damage::TwoInPitchCode),
-    Stretch::SpareOfB,
     Stretch::Erased,
     Stretch::Fading,
     Stretch::AnyBits,
@@ -70,10 +68,6 @@ impl Link {
     fn frame(&mut self, stretch: Stretch) -> [u8; 7] {
         match stretch {
             Stretch::Sent(damage) => self.sent(damage, true),
-            Stretch::SpareOfB => {
-                let damage = frames::random_spare(&mut self.random);
-                self.sent(damage, true)
-            }
             Stretch::Erased => self.sent(Damage::TwoInPitchCode, false),
             Stretch::Fading => {
                 let sent = Stretch::Sent(Damage::OneInEach);

@@ -75,12 +75,16 @@ fn with(bytes: &[u8; 11], at: usize, byte: u8) -> Vector {
     reading_of(&other)
 }
 
-/// Of an unvoiced and of a voiced set: every length, every first byte up to 3, and 1 in every byte that an unvoiced set lacks.
+/// The bytes of an unvoiced and of a voiced set.
+pub const SETS: [[u8; 11]; 2] = [
+    [0, 0, 87, 41, 23, 10, 17, 5, 0, 0, 0],
+    [1, 42, 87, 41, 23, 10, 17, 5, 12, 200, 1],
+];
+
+/// Of both sets: every length, every first byte up to 3, and 1 in every byte that an unvoiced set lacks.
 pub fn conditions() -> Vec<Vector> {
-    let unvoiced = [0, 0, 87, 41, 23, 10, 17, 5, 0, 0, 0];
-    let voiced = [1, 42, 87, 41, 23, 10, 17, 5, 12, 200, 1];
     let mut vectors = Vec::new();
-    for bytes in [unvoiced, voiced] {
+    for bytes in SETS {
         let longer = [&bytes[..], &[0]].concat();
         vectors.extend((0..=12).map(|size| reading_of(&longer[..size])));
         vectors.extend((0..=3).map(|first| with(&bytes, 0, first)));

@@ -62,7 +62,10 @@ const MAKERS: [fn(&mut Random) -> Vector; 29] = [
 /// One vector of a random kind, a quarter of them of receiving.
 fn random_vector(random: &mut Random) -> Vector {
     if random.once_in(4) {
-        let way = random.pick(&[receiver_vectors::receive, receiver_vectors::receive_in_place]);
+        let way = random.pick(&[
+            receiver_vectors::receive,
+            receiver_vectors::receive_in_place,
+        ]);
         return way(random);
     }
     let maker = random.pick(&MAKERS);

@@ -40,14 +40,13 @@ allPatterns n f = patterns n n f
 pub all-patterns-at : (n : ℕ) (f : List Bool → Bool) → T (allPatterns n f) → (l : List Bool) → length l ≡ n → T (f l)
 all-patterns-at n f t l e = patterns-at n n f t l e (omega (arith, ones-le l))
 
--- bits that pass the test of sameness are equal
-pub beq-eq : (a b : Bool) → T (Bool·beq a b) → a ≡ b
+beq-eq : (a b : Bool) → T (Bool·beq a b) → a ≡ b
 beq-eq true true t = refl
 beq-eq true false t = absurd t
 beq-eq false true t = absurd t
 beq-eq false false t = refl
 
--- and so are lists of bits
+-- lists that pass the test of sameness are equal
 pub same-eq : (l m : List Bool) → T (same l m) → l ≡ m
 same-eq [] [] t = refl
 same-eq [] (b ∷ ys) t = absurd t

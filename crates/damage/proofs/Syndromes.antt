@@ -6,9 +6,10 @@ use mathlib.Core.List.{List}
 use Prim.Native.Nat.{ℕ, _+_, _≤_}
 use native.Mathlib.Omega.{arith}
 use lib.Dec.{lit≤}
-use Rattle.bits.specs.Bits.{cut}
-use Rattle.bits.proofs.Cut.{cut-ext}
-use Rattle.hamming.specs.Word.{syndrome, erases}
+use lib.ListN.{length}
+use Rattle.bits.specs.Bits.{_⊕_, ones, cut}
+use Rattle.bits.proofs.Cut.{cut-length, cut-ext}
+use Rattle.hamming.specs.Word.{dataBits, encode, syndrome, erases}
 use Rattle.hamming.proofs.Erasures.{one-flip-syndrome}
 use Rattle.order.specs.Order.{Order, logicalBit}
 use Rattle.order.specs.Fields.{wordA, wordB}
@@ -21,23 +22,28 @@ use Rattle.damage.proofs.Repair.{damaged}
 use Rattle.damage.proofs.AnyOrder.{arrived}
 
 module _ (ord : List ℕ) (o : Order ord) (x : Indices) (sync : Bool) (fl : ℕ → Bool) where
-  -- the logical bits of the frame as it arrives
+  -- the logical bits of the frame as it arrives, as they were sent, and their flips
   abbrev pub got : ℕ → Bool
   got = logicalBit ord (arrived ord (Unvoiced x) sync fl)
 
-  -- a part of them is that of the bits sent, with their flips
-  part-is : (i n : ℕ) → i + n ≤ 54 → cut got i n ≡ cut (damaged (logicalOf (Unvoiced x) sync) (logicalFlips ord fl)) i n
-  part-is i n h = cut-ext got _ i n (λ j a b. received-bit ord o (logicalOf (Unvoiced x) sync) fl j (omega arith))
+  abbrev sent : ℕ → Bool
+  sent = logicalOf (Unvoiced x) sync
 
-  module _ (k : Correctable (logicalFlips ord fl)) where
+  abbrev flips : ℕ → Bool
+  flips = logicalFlips ord fl
+
+  -- the word of n bits from i on, sent with the data d and with at most one flip, shows no syndrome that erases
+  shows-none : (n i : ℕ) → 6 ≤ n → n ≤ 8 → i + n ≤ 54 → (d : List Bool) → length d ≡ dataBits n
+      → cut (damaged sent flips) i n ≡ encode n d ⊕ cut flips i n → ones (cut flips i n) ≤ 1 → erases n (syndrome n (cut got i n)) ≡ false
+  shows-none n i l m h d hd e k =
+      ap (λ (w : List Bool). erases n (syndrome n w)) (cut-ext got (damaged sent flips) i n (λ j a b. received-bit ord o sent fl j (omega arith)) ∙ e)
+      ∙ one-flip-syndrome n l m d (cut flips i n) hd (cut-length flips i n) k
+
+  module _ (k : Correctable flips) where
     pub a-shows-none : erases 8 (syndrome 8 (wordA got)) ≡ false
     unfolding words others unvoicedWords logical
-    a-shows-none =
-        ap (λ (w : List Bool). erases 8 (syndrome 8 w)) (part-is 0 8 (lit≤ tt))
-        ∙ one-flip-syndrome 8 (lit≤ tt) (lit≤ tt) (dataA x) (wordA (logicalFlips ord fl)) refl refl (k .a)
+    a-shows-none = shows-none 8 0 (lit≤ tt) (lit≤ tt) (lit≤ tt) (dataA x) refl refl (k .a)
 
     pub b-shows-none : erases 6 (syndrome 6 (wordB got)) ≡ false
     unfolding words others unvoicedWords logical
-    b-shows-none =
-        ap (λ (w : List Bool). erases 6 (syndrome 6 w)) (part-is 8 6 (lit≤ tt))
-        ∙ one-flip-syndrome 6 (lit≤ tt) (lit≤ tt) (dataB x) (wordB (logicalFlips ord fl)) refl refl (k .b)
+    b-shows-none = shows-none 6 8 (lit≤ tt) (lit≤ tt) (lit≤ tt) (dataB x) refl refl (k .b)

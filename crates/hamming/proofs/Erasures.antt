@@ -1,20 +1,18 @@
 -- Which words are erased: those whose syndrome erases and no others. A word with at most one flip is none of them, whatever its length.
 -- Assumes nothing.
-use mathlib.Core.Path.{_≡_, refl, sym, ap, ap₂, _∙_, subst}
-use mathlib.Core.Bool.{Bool, true, false, false≢true, Bool·beq}
-use mathlib.Core.List.{List}
-use Prim.Native.Nat.{ℕ, _+_, _≤_}
-use lib.ListN.{length, length-append}
-use Rattle.bits.specs.Bits.{_⊕_, ones, value}
-use Rattle.bits.proofs.Count.{⊕-length}
-use Rattle.bits.proofs.Patterns.{allPatterns, all-patterns-at, beq-eq}
-use Rattle.bits.proofs.Digits.{bits-value}
-use Rattle.hamming.specs.Word.{checkBits, dataBits, parityOf, encode, syndrome, erases, Fix, stand, flip, erase, fixOf, mend, decode}
+use mathlib.Core.Path.{_≡_, refl, sym, ap, _∙_}
+use mathlib.Core.Bool.{Bool, true, false, false≢true, cond, and-false}
+use mathlib.Core.List.{List, [], _∷_}
+use Prim.Native.Nat.{ℕ, _≤_}
+use native.Mathlib.Omega.{arith}
+use lib.Dec.{eqb}
+use lib.ListN.{length}
+use borrow.Author.Tests.{eq-eqb, eqb-true}
+use Rattle.bits.specs.Bits.{_⊕_, ones}
+use Rattle.hamming.specs.Word.{dataBits, encode, syndrome, erases, bitFrom, stand, flip, erase, fixOf, mend, decode}
 use Rattle.hamming.specs.declared.Decoded.{Decoded}
 use Rattle.hamming.specs.declared.Decoded.the-variants.{Read, Erased}
-use Rattle.hamming.proofs.Lengths.{lengths-at}
 use Rattle.hamming.proofs.Repairs.{decode-back}
-use Rattle.hamming.proofs.Words.{split-length, parity-length, syndrome-length}
 
 -- whether the outcome of a word is an erasure
 abbrev pub isErased : Decoded → Bool
@@ -25,43 +23,30 @@ pub erased-eq : (r : Decoded) → isErased r ≡ true → r ≡ Erased
 erased-eq (Read d k) e = absurd (false≢true e)
 erased-eq Erased e = refl
 
--- whether a request is one
-isErase : Fix → Bool
-isErase stand = false
-isErase (flip k) = false
-isErase erase = true
+-- zero erases no word
+zero-keeps : (n : ℕ) (z : List Bool) → ones z ≡ 0 → erases n z ≡ false
+zero-keeps n [] e = simp (and-false (eqb n 8), and-false (eqb n 6))
+zero-keeps n (true ∷ z) e = absurd (omega arith)
+zero-keeps n (false ∷ z) e = simp (eq-eqb (ones z) 0 e, and-false (eqb n 8), and-false (eqb n 6))
 
-mend-erased : (n : ℕ) (w : List Bool) (f : Fix) → isErased (mend n w f) ≡ isErase f
-unfolding isErase
-mend-erased n w stand = refl
-mend-erased n w (flip k) = refl
-mend-erased n w erase = refl
+-- the outcome by the two tests of a syndrome, of which not both hold
+by-tests : (n : ℕ) (w : List Bool) (k : ℕ) (a b : Bool) → (a ≡ true → b ≡ false) → isErased (mend n w (cond a stand (cond b erase (flip k)))) ≡ b
+by-tests n w k true b h = sym (h refl)
+by-tests n w k false true h = refl
+by-tests n w k false false h = refl
 
--- the request at a syndrome is an erasure exactly where it erases
-agrees : ℕ → List Bool → Bool
-agrees n z = Bool·beq (isErase (fixOf n z)) (erases n z)
+-- a received word is erased exactly where its syndrome erases
+pub decode-erased : (n : ℕ) (w : List Bool) → isErased (decode n w) ≡ erases n (syndrome n w)
+unfolding decode fixOf
+decode-erased n w =
+    let z = syndrome n w in
+    by-tests n w (bitFrom n z n 0) (eqb (ones z) 0) (erases n z) (λ h. zero-keeps n z (eqb-true (ones z) 0 h))
 
-module _ (n : ℕ) (l : 6 ≤ n) (m : n ≤ 8) where
-  fix-erased : (z : List Bool) → length z ≡ checkBits n → isErase (fixOf n z) ≡ erases n z
-  unfolding agrees isErase fixOf
-  fix-erased z h = beq-eq _ _ (all-patterns-at (checkBits n) (agrees n) (lengths-at (λ n. allPatterns (checkBits n) (agrees n)) tt n l m) z h)
+module _ (n : ℕ) (l : 6 ≤ n) (m : n ≤ 8) (d e : List Bool) (hd : length d ≡ dataBits n) (he : length e ≡ n) (h : ones e ≤ 1) where
+  -- a word with at most one flip is never erased
+  pub one-flip-read : isErased (decode n (encode n d ⊕ e)) ≡ false
+  one-flip-read = ap isErased (decode-back n l m d e hd he h)
 
-  -- a received word is erased exactly where its syndrome erases
-  pub decode-erased : (w : List Bool) → length w ≡ n → isErased (decode n w) ≡ erases n (syndrome n w)
-  unfolding decode
-  decode-erased w e =
-      mend-erased n w (fixOf n (syndrome n w))
-      ∙ fix-erased (syndrome n w) (subst (λ (v : List Bool). length (syndrome n v) ≡ checkBits n) (bits-value n w e) (syndrome-length n l m (value w)))
-
-  -- a word has n bits, with flips and without
-  sent-length : (d e : List Bool) → length d ≡ dataBits n → length (encode n d ⊕ e) ≡ n
-  sent-length d e h = ⊕-length (encode n d) e ∙ length-append d (parityOf n d) ∙ ap₂ _+_ h (parity-length n l m d h) ∙ split-length n l m
-
-  module _ (d e : List Bool) (hd : length d ≡ dataBits n) (he : length e ≡ n) (h : ones e ≤ 1) where
-    -- a word with at most one flip is never erased
-    pub one-flip-read : isErased (decode n (encode n d ⊕ e)) ≡ false
-    one-flip-read = ap isErased (decode-back n l m d e hd he h)
-
-    -- so it shows no syndrome that erases, word B not the spare's
-    pub one-flip-syndrome : erases n (syndrome n (encode n d ⊕ e)) ≡ false
-    one-flip-syndrome = sym (decode-erased (encode n d ⊕ e) (sent-length d e hd)) ∙ one-flip-read
+  -- so it shows no syndrome that erases, word B not the spare's
+  pub one-flip-syndrome : erases n (syndrome n (encode n d ⊕ e)) ≡ false
+  one-flip-syndrome = sym (decode-erased n (encode n d ⊕ e)) ∙ one-flip-read

@@ -57,7 +57,7 @@ module _ (n : ℕ) (l : 6 ≤ n) (m : n ≤ 8) where
   expected w = value (parityOf n (bits (dataBits n) (w / 2 ^ checkBits n)))
 
   -- as many parity bits as a word has room for
-  pub parity-length : (d : List Bool) → length d ≡ dataBits n → length (parityOf n d) ≡ checkBits n
+  parity-length : (d : List Bool) → length d ≡ dataBits n → length (parityOf n d) ≡ checkBits n
   parity-length d h =
       eqb→eq _ _ (all-patterns-at (dataBits n) (λ d. eqb (length (parityOf n d)) (checkBits n))
       (lengths-at (λ n. allPatterns (dataBits n) (λ d. eqb (length (parityOf n d)) (checkBits n))) tt n l m) d h)

@@ -2,10 +2,9 @@
 -- whose word B that of its spare; no others. Word A is checked first.
 -- Assumes nothing.
 use mathlib.Core.Path.{_≡_, refl, ap, ap₂, _∙_}
-use mathlib.Core.Bool.{Bool, true, false, true≢false, false≢true, _||_}
+use mathlib.Core.Bool.{Bool, true, false, true≢false, false≢true, _||_, or-true}
 use mathlib.Core.List.{List}
 use Prim.Native.Nat.{ℕ}
-use lib.Dec.{lit≤}
 use Rattle.pitch.specs.Pitch.{classOf}
 use Rattle.pitch.specs.declared.PitchClass.{PitchClass}
 use Rattle.pitch.specs.declared.PitchClass.the-variants as class
@@ -27,10 +26,6 @@ frameErased-eq : (r : Reading) → frameErased r ≡ true → r ≡ Erased
 frameErased-eq (Accepted set k) e = absurd (false≢true e)
 frameErased-eq Erased e = refl
 
-or-true : (b : Bool) → (b || true) ≡ true
-or-true true = refl
-or-true false = refl
-
 module _ (g : ℕ → Bool) where
   -- whether its words erase an unvoiced frame: A, then B; none of seven bits does
   abbrev pub wordsErase : Bool
@@ -50,15 +45,12 @@ module _ (g : ℕ → Bool) where
   words-erase (word.Read a i) (word.Read b j) (word.Read c k) word.Erased hc hd = absurd (true≢false hd)
   words-erase (word.Read a i) (word.Read b j) (word.Read c k) (word.Read d l) hc hd = refl
 
-  a-erased : isErased (decode 8 (wordA g)) ≡ erases 8 (syndrome 8 (wordA g))
-  a-erased = decode-erased 8 (lit≤ tt) (lit≤ tt) (wordA g) refl
-
   -- a frame of each class
   class-erases : (c : PitchClass) → frameErased (byClass g c) ≡ erasedIn c
   class-erases class.Unvoiced =
       words-erase (decode 8 (wordA g)) (decode 6 (wordB g)) (decode 7 (wordC g)) (decode 7 (wordD g))
-      (decode-erased 7 (lit≤ tt) (lit≤ tt) (wordC g) refl) (decode-erased 7 (lit≤ tt) (lit≤ tt) (wordD g) refl)
-      ∙ ap₂ _||_ a-erased (decode-erased 6 (lit≤ tt) (lit≤ tt) (wordB g) refl)
+      (decode-erased 7 (wordC g)) (decode-erased 7 (wordD g))
+      ∙ ap₂ _||_ (decode-erased 8 (wordA g)) (decode-erased 6 (wordB g))
   class-erases class.Erased = refl
   class-erases (class.Voiced i) = refl
 
@@ -74,4 +66,4 @@ module _ (g : ℕ → Bool) where
 
   -- word A is checked first: where its syndrome erases, the other three play no part
   pub a-first : erases 8 (syndrome 8 (wordA g)) ≡ true → (b c d : Decoded) → fromWords g (decode 8 (wordA g)) b c d ≡ Erased
-  a-first e b c d = ap (λ (a : Decoded). fromWords g a b c d) (erased-eq (decode 8 (wordA g)) (a-erased ∙ e))
+  a-first e b c d = ap (λ (a : Decoded). fromWords g a b c d) (erased-eq (decode 8 (wordA g)) (decode-erased 8 (wordA g) ∙ e))
