@@ -6,8 +6,10 @@ The numbers are synthetic. They are not those of Tables IV to VIII of MIL-STD-30
 import os
 
 HERTZ = 1_000_000  # an LSF entry is in millionths of a hertz
+MOST = 4_000 * HERTZ  # an LSF entry is at most this
 COMPONENTS = 10
 FIRST_STAGE_ROWS = 128
+STEEP_ROWS = 16  # the last rows of stage 1
 LATER_STAGE_ROWS = 64
 LATER_STAGE_SPREADS = (40, 20, 10)  # hertz, stages 2 to 4
 MAGNITUDE_ROWS = 256
@@ -26,10 +28,13 @@ class Numbers:
 
 
 def lsf_entries(numbers):
-    """Stage 1 rises by 350 Hz from about 330 Hz; the other stages are corrections that keep every sum rising."""
-    for _ in range(FIRST_STAGE_ROWS):
+    """Stage 1 rises by 350 Hz from about 330 Hz; the other stages are corrections that keep every sum rising. The last rows of
+    stage 1 rise by 450 Hz, so that they run off the top: entries may reach 4,000 Hz, and a last value 3,950 Hz."""
+    for row in range(FIRST_STAGE_ROWS):
+        step = 350 if row < FIRST_STAGE_ROWS - STEEP_ROWS else 450
         for component in range(COMPONENTS):
-            yield (330 + 350 * component) * HERTZ + numbers.within(60 * HERTZ)
+            entry = (330 + step * component) * HERTZ + numbers.within(60 * HERTZ)
+            yield min(entry, MOST)
     for spread in LATER_STAGE_SPREADS:
         for _ in range(LATER_STAGE_ROWS * COMPONENTS):
             yield numbers.within(spread * HERTZ)

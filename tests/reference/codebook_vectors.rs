@@ -347,7 +347,35 @@ pub fn conditions() -> Vec<Vector> {
         vectors.extend(refusal_pairs(codebook, row));
         vectors.extend(outputs(codebook));
     }
+    vectors.extend(range_ends());
     vectors
+}
+
+/// LSF values whose first, ninth and tenth sums lie at the ends of their range, a millionth inside or outside them, or far off.
+/// All other sums are 0.
+fn range_ends() -> Vec<Vector> {
+    let (least, most) = LSF_LIMITS;
+    let first = [50_000_000, 3_500_000_000].map(|end| [end - 1, end, end + 1]);
+    let ninth = [3_899_999_999, 3_900_000_000, 3_900_000_001];
+    let tenth = [3_949_999_999, 3_950_000_000, 3_950_000_001];
+    let mut sums: Vec<[i64; 3]> = Vec::new();
+    sums.extend(first.concat().iter().map(|x| [*x, 0, 0]));
+    sums.extend(ninth.map(|x| [0, x, 0]));
+    sums.extend(tenth.map(|x| [0, 0, x]));
+    sums.extend(ninth.map(|x| [0, x, most]));
+    sums.extend([
+        [least; 3],
+        [most; 3],
+        [most, least, least],
+        [least, most, least],
+    ]);
+    let row = |x: &[i64; 3]| Rule {
+        replaced: [(50, x[0]), (58, x[1]), (59, x[2])],
+        ..Rule::new(LSF_SIZE, 0, 0, 0)
+    };
+    sums.iter()
+        .map(|x| values_of(Codebook::Lsf, &known_set(), 12, &row(x)))
+        .collect()
 }
 
 /// Calls with one or more of the conditions 1, 5, 6 and 7.

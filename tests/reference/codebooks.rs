@@ -1,4 +1,5 @@
-//! Document 01's section "LSF and magnitude values": codebooks as text, their rows, and the values of a set.
+//! Document 01's section "LSF and magnitude values", and document 02's T-03: codebooks as text, their rows, and the values of a
+//! set.
 
 // Each program uses its part.
 #![allow(dead_code)]
@@ -21,8 +22,9 @@ const STAGES: [usize; 4] = [128, 64, 64, 64];
 pub const LSF_LIMITS: (i64, i64) = (-4_000_000_000, 4_000_000_000);
 pub const MAGNITUDE_LIMITS: (i64, i64) = (0, 4_000_000);
 
-/// Millionths of a hertz in 50 Hz.
+/// Millionths of a hertz in 50 Hz, and in 3,950 Hz.
 const SPACING: i64 = 50_000_000;
+const TOP: i64 = 3_950_000_000;
 
 // ---- The text of a codebook ----
 
@@ -111,11 +113,25 @@ pub fn magnitude_row(codebook: &[i64], index: u16) -> Result<&[i64], Refusal> {
 // ---- Values ----
 
 /// Components raised: the first to 50 Hz, each next to 50 Hz above the one before.
-pub fn spaced(mut sums: Vec<i64>) -> Vec<i64> {
-    sums[0] = sums[0].max(SPACING);
+fn raise(components: &mut [i64]) {
+    components[0] = components[0].max(SPACING);
     for component in 1..ROW {
-        sums[component] = sums[component].max(sums[component - 1] + SPACING);
+        components[component] = components[component].max(components[component - 1] + SPACING);
     }
+}
+
+/// Components lowered: the tenth to 3,950 Hz, then from the ninth down each to 50 Hz below the next.
+fn lower(components: &mut [i64]) {
+    components[ROW - 1] = components[ROW - 1].min(TOP);
+    for component in (0..ROW - 1).rev() {
+        components[component] = components[component].min(components[component + 1] - SPACING);
+    }
+}
+
+/// Sums raised, and after that lowered.
+pub fn spaced(mut sums: Vec<i64>) -> Vec<i64> {
+    raise(&mut sums);
+    lower(&mut sums);
     sums
 }
 
@@ -130,7 +146,7 @@ fn check(set: &Set, codebook: &[i64], size: usize, room: usize) -> Result<(), Re
     check_size(codebook, size)
 }
 
-/// The four rows of a set added, then raised.
+/// The four rows of a set added, raised and lowered.
 pub fn lsf_values(set: &Set, codebook: &[i64], room: usize) -> Result<Vec<i64>, Refusal> {
     check(set, codebook, LSF_SIZE, room)?;
     let mut sums = vec![0; ROW];

@@ -1,6 +1,6 @@
 //! The program of document 01's section "LSF and magnitude values": `spectrum FOLDER` takes a frame on standard input
 //! and the codebooks `lsf.txt` and `mag.txt` of a folder, and prints what the program has to print. `spectrum selftest`
-//! tries the document's example 8.
+//! tries the document's example 8, and sums that run off the top.
 
 mod codebooks;
 mod melp;
@@ -30,14 +30,34 @@ fn spectrum(input: &[u8], folder: &Path) -> Result<Vec<i64>, Refusal> {
 
 // ---- Program ----
 
-/// Example 8, in millionths.
+/// Sums in hertz and the values that they become: example 8 of document 01, then two of our own for T-03, sums of which the last
+/// four are lowered, and one that carries all others off the top.
+const SPACED: [(&str, [i64; ROW], [i64; ROW]); 3] = [
+    (
+        "8",
+        [300, 340, 500, 800, 1100, 1400, 1700, 2000, 2300, 2600],
+        [300, 350, 500, 800, 1100, 1400, 1700, 2000, 2300, 2600],
+    ),
+    (
+        "of T-03, crowded",
+        [300, 900, 1500, 2100, 2700, 3300, 3880, 3900, 3910, 3990],
+        [300, 900, 1500, 2100, 2700, 3300, 3800, 3850, 3900, 3950],
+    ),
+    (
+        "of T-03, off the top",
+        [4000, 0, 0, 0, 0, 0, 0, 0, 0, 0],
+        [3500, 3550, 3600, 3650, 3700, 3750, 3800, 3850, 3900, 3950],
+    ),
+];
+
+/// The examples, in millionths.
 fn selftest() -> ExitCode {
-    let hertz = |values: [i64; ROW]| values.map(|value| 1_000_000 * value).to_vec();
-    let sums = hertz([300, 340, 500, 800, 1100, 1400, 1700, 2000, 2300, 2600]);
-    let expected = hertz([300, 350, 500, 800, 1100, 1400, 1700, 2000, 2300, 2600]);
-    if codebooks::spaced(sums) != expected {
-        println!("example 8 fails");
-        return ExitCode::FAILURE;
+    let millionths = |hertz: [i64; ROW]| hertz.map(|value| 1_000_000 * value).to_vec();
+    for (name, sums, expected) in SPACED {
+        if codebooks::spaced(millionths(sums)) != millionths(expected) {
+            println!("example {name} fails");
+            return ExitCode::FAILURE;
+        }
     }
     println!("ok");
     ExitCode::SUCCESS

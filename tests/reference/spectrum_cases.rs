@@ -352,6 +352,69 @@ fn limit_cases(cases: &Cases, codebooks: &Codebooks) -> Result<()> {
     Ok(())
 }
 
+/// Sums in hertz at both ends of the range and past them, each with the component that is tried a millionth less and more too.
+const END_SUMS: [(&str, usize, [i64; 10]); 12] = [
+    ("all_off_the_top", 9, [3990; 10]),
+    ("all_off_the_bottom", 0, [-3990; 10]),
+    ("first_carries_all", 0, [3990, 0, 0, 0, 0, 0, 0, 0, 0, 0]),
+    (
+        "fifth_carries_half",
+        4,
+        [-9, -9, -9, -9, 3990, -9, -9, -9, -9, -9],
+    ),
+    (
+        "falling",
+        5,
+        [3990, 3600, 3200, 2800, 2400, 2000, 1600, 1200, 800, 400],
+    ),
+    (
+        "rising",
+        5,
+        [
+            -3600, -2800, -2000, -1200, -400, 400, 1200, 2000, 2800, 3600,
+        ],
+    ),
+    ("tenth_at_the_top", 9, [0, 0, 0, 0, 0, 0, 0, 0, 0, 3950]),
+    (
+        "ninth_below_the_top",
+        8,
+        [0, 0, 0, 0, 0, 0, 0, 0, 3900, 3990],
+    ),
+    ("first_of_all_at_the_top", 0, AT_THE_TOP),
+    ("last_of_all_at_the_top", 9, AT_THE_TOP),
+    (
+        "first_at_the_bottom",
+        0,
+        [50, 600, 900, 900, 900, 900, 900, 900, 900, 900],
+    ),
+    (
+        "second_above_the_first",
+        1,
+        [300, 350, 900, 900, 900, 900, 900, 900, 900, 900],
+    ),
+];
+
+/// Ten values 50 Hz apart, the last at the top.
+const AT_THE_TOP: [i64; 10] = [3500, 3550, 3600, 3650, 3700, 3750, 3800, 3850, 3900, 3950];
+
+/// Each of these sums in the rows of stage 1 that the known frames use, row 0 that of an erased frame. All other entries are 0, but
+/// for the row of stage 2 that a known frame uses, which is also tried at its limits.
+fn end_cases(cases: &Cases, codebooks: &Codebooks) -> Result<()> {
+    for (name, at, hertz) in END_SUMS {
+        for (off, second) in [(-1, 0), (0, 0), (1, 0), (0, LSF_LIMIT), (0, -LSF_LIMIT)] {
+            let mut sums = hertz.map(|value| 1_000_000 * value);
+            sums[at] += off;
+            let mut lsf = vec![0; LSF_LINES];
+            lsf[..10].copy_from_slice(&sums);
+            lsf[50..60].copy_from_slice(&sums);
+            lsf[1340..1350].fill(second);
+            let name = format!("end-{name}-{off}-{second}");
+            cases.add_changed(&name, codebooks, 0, &text(&lsf))?;
+        }
+    }
+    Ok(())
+}
+
 /// So many random pairs of codebooks, five inputs each.
 fn random_cases(cases: &Cases, random: &mut Random, count: usize) -> Result<()> {
     for i in 0..count {
@@ -367,13 +430,33 @@ fn random_cases(cases: &Cases, random: &mut Random, count: usize) -> Result<()> 
     Ok(())
 }
 
+/// A good LSF codebook: entries around 0, or rows of stage 1 that rise to around the top, from any start, and small ones after it.
+fn good_lsf(random: &mut Random) -> Vec<i64> {
+    let spread = random.pick(&[1, 1_000, 60_000_000, 900_000_000, LSF_LIMIT]);
+    if random.once_in(2) {
+        return (0..LSF_LINES)
+            .map(|_| random.between(-spread, spread))
+            .collect();
+    }
+    let start = random.between(-500_000_000, 3_900_000_000);
+    let step = (random.between(3_600_000_000, 4_200_000_000) - start) / 9;
+    let near = spread.min(60_000_000);
+    let entry = |i: usize| {
+        if i < 1280 {
+            start + step * (i as i64 % 10)
+        } else {
+            0
+        }
+    };
+    (0..LSF_LINES)
+        .map(|i| (entry(i) + random.between(-near, near)).clamp(-LSF_LIMIT, LSF_LIMIT))
+        .collect()
+}
+
 /// Frames with random codebooks that are good, so that no refusal hides a value.
 fn good_random_cases(cases: &Cases, random: &mut Random, count: usize) -> Result<()> {
     for i in 0..count {
-        let spread = random.pick(&[1, 1_000, 60_000_000, 900_000_000, LSF_LIMIT]);
-        let lsf: Vec<i64> = (0..LSF_LINES)
-            .map(|_| random.between(-spread, spread))
-            .collect();
+        let lsf = good_lsf(random);
         let (_, mag) = good_codebooks(random);
         let inputs: Vec<Vec<u8>> = (0..5).map(|_| frame(&frames::random_set(random))).collect();
         cases.add(
@@ -399,7 +482,8 @@ fn spoilt_cases(cases: &Cases, random: &mut Random) -> Result<()> {
     text_cases(cases, &codebooks)?;
     file_cases(cases, &codebooks)?;
     input_cases(cases, &codebooks)?;
-    limit_cases(cases, &codebooks)
+    limit_cases(cases, &codebooks)?;
+    end_cases(cases, &codebooks)
 }
 
 /// Write the cases of one kind.

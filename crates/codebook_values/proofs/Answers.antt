@@ -11,7 +11,7 @@ use lib.IntN.{ℤ}
 use borrow.Author.Tests.{ltb-false, eqb-true}
 use Rattle.bits.specs.Lists.{writtenUnless}
 use Rattle.bits.specs.Refusals.{Table, firstRefusal}
-use Rattle.bits.proofs.Refusals.{first-append}
+use Rattle.bits.proofs.Refusals.{first-append, append-none}
 use Rattle.sets.specs.Sets.{inRange}
 use Rattle.sets.specs.declared.ParameterSet.{ParameterSet}
 use Rattle.codebook_values.specs.Values.{valuesUnless}
@@ -88,6 +88,12 @@ module _ (set : ParameterSet) (codebook : List ℤ) (size : ℕ) (out : List ℤ
         whole = eqb-true (length codebook) size (p .2);
         rest = λ fit. rw (p .0, p .1, p .2) refl;
       }
+
+-- where no table refuses at all, every test before the rows is passed
+pub table-passed : (set : ParameterSet) (codebook : List ℤ) (size : ℕ) (out : List ℤ) (others : Table)
+    → firstRefusal (earlyTable (inRange set) (length codebook) size (length out) ++ others) ≡ 0 → Passed set codebook size (length out)
+table-passed set codebook size out others e =
+    early-passed set codebook size out (inRange set) 0 refl (sym (append-none (earlyTable (inRange set) (length codebook) size (length out)) others e)) refl
 
 -- past those tests a call owes what the rows in use owe, with values that are the set's where they are written
 pub rows-owe : (set : ParameterSet) (codebook : List ℤ) (size : ℕ) (out : List ℤ) → Passed set codebook size (length out)

@@ -12,9 +12,10 @@ use Rattle.sets.specs.declared.ParameterSet.the-variants.{Unvoiced, Voiced}
 use Rattle.sets.proofs.Ranges.{set-ranges, voicing-ranges}
 use Rattle.codebook.specs.Rows.{lsfSize, magnitudeSize}
 use Rattle.codebook.proofs.Answers.{lsf-row-length, magnitude-row-length}
-use Rattle.codebook_values.specs.Values.{spacing, lsfValues, magnitudes}
+use Rattle.codebook_values.specs.Values.{spacing, raised, highest, lsfValues, magnitudes}
 use Rattle.codebook_values.proofs.Sums.{four-length}
-use Rattle.codebook_values.proofs.Turns.{raised-length}
+use Rattle.codebook_values.proofs.Lowered.{lowered-length}
+use Rattle.codebook_values.proofs.RaisedTurns.{raised-length}
 
 -- of LSF
 pub lsf-length : (codebook : List ℤ) (set : ParameterSet) → length codebook ≡ lsfSize → T (inRange set) → length (lsfValues codebook set) ≡ 10
@@ -22,7 +23,8 @@ unfolding lsfValues
 lsf-length codebook set h t =
     let x = indicesIn set in
     let r = set-ranges set t in
-    raised-length spacing _
+    lowered-length highest (raised spacing _)
+    ∙ raised-length spacing _
     ∙ four-length 10 _ _ _ _ (lsf-row-length codebook 1 (x .l1) h (r .l1)) (lsf-row-length codebook 2 (x .l2) h (r .l2))
     (lsf-row-length codebook 3 (x .l3) h (r .l3)) (lsf-row-length codebook 4 (x .l4) h (r .l4))
 

@@ -1,8 +1,13 @@
 pub mod Sizes
+pub mod Order
+pub mod Extremes
+pub mod FourRows
 pub mod Sums
-pub mod Turns
-pub mod Spacing
+pub mod RaisedTurns
+pub mod Spaced
+pub mod Lowered
+pub mod LoweredTurns
 pub mod Lengths
 pub mod Answers
-pub mod FourRows
+pub mod Spacing
 pub mod Examples

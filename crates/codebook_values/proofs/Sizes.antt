@@ -7,13 +7,13 @@ use native.Mathlib.Nat.{le-refl}
 use native.Mathlib.Omega.{arith}
 use lib.Dec.{ltb}
 use lib.IntN.{ℤ, pos, negsuc, natAbs, subℕ, _+ℤ_}
-use lib.Signed.{mag, ltZ}
+use lib.Signed.{mag, ltZ, _≤ℤ_}
 use mir.Syntax.{w64}
 use mir.Val.{SFits, toZ, ofZ}
 use mir.ValLaws.{toZ-ofZ}
-use borrow.Author.Tests.{ltb-true, leb-true}
+use borrow.Author.Tests.{ltb-true, ltb-false, leb-true}
 use Rattle.codebook.specs.Rows.{lsfFits}
-use Rattle.codebook_values.specs.Values.{larger}
+use Rattle.codebook_values.specs.Values.{larger, smaller}
 
 -- the size that a width's range is told by
 mag-le : (z : ℤ) → mag z ≤ natAbs z
@@ -27,6 +27,10 @@ abs-fits z h = record { sfits = omega (arith, mag-le z) }
 -- a number that the type holds is read back from its bits
 pub number-back : (z : ℤ) → mag z < 2 ^ 63 → toZ w64 (ofZ w64 z) ≡ z
 number-back z h = toZ-ofZ w64 z (record { sfits = h })
+
+-- and a test of two such numbers is one of what is read back
+pub test-back : {x y : ℤ} {t : Bool} → SFits w64 x → SFits w64 y → ltZ (toZ w64 (ofZ w64 x)) (toZ w64 (ofZ w64 y)) ≡ t → ltZ x y ≡ t
+test-back hx hy e = simp (toZ-ofZ w64 _ hx, toZ-ofZ w64 _ hy) at e
 
 -- the size of a difference of two naturals
 sub-abs-le : (a b : ℕ) → natAbs (subℕ a b) ≤ a + b
@@ -50,6 +54,16 @@ abs-larger-le x y n hx hy = go (ltZ x y)
     go : (t : Bool) → natAbs (cond t y x) ≤ n
     go true = hy
     go false = hx
+
+-- the smaller of two numbers of which the first is not negative is at most as large as the second
+pub abs-smaller-le : (x most : ℤ) → pos 0 ≤ℤ x → natAbs (smaller x most) ≤ natAbs most
+abs-smaller-le (pos x) (pos most) h = go (ltb most x) refl
+  where
+    go : (t : Bool) → ltb most x ≡ t → natAbs (cond t (pos most) (pos x)) ≤ most
+    go true e = le-refl most
+    go false e = ltb-false most x e
+abs-smaller-le (pos x) (negsuc most) h = le-refl (suc most)
+abs-smaller-le (negsuc x) most h = absurd (h .le)
 
 -- an LSF entry within its limit
 pub lsf-abs-le : (z : ℤ) → lsfFits z ≡ true → natAbs z ≤ 4000000000

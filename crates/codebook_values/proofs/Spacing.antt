@@ -1,76 +1,74 @@
--- What is promised of LSF values: raising spaces any list and leaves one that is spaced, by its two steps; sums of four entries within
--- the limit stay within four times the limit, by the sizes of sums. Assumes nothing.
-use mathlib.Core.Path.{_≡_, refl, ap, _∙_}
-use mathlib.Core.Bool.{Bool, true, false, cond, and-eq-true-iff}
-use mathlib.Core.List.{List, [], _∷_}
-use Prim.Native.Nat.{_≤_}
+-- What is promised of LSF values: ten raised sums have room between 50 and 3,950 Hz, so lowering leaves them spaced.
+-- Assumes nothing.
+use mathlib.Core.Path.{_≡_, refl, sym, ap, _∙_}
+use mathlib.Core.Bool.{true}
+use mathlib.Core.List.{List}
+use Prim.Native.Nat.{ℕ, zero, suc, _<_}
+use native.Mathlib.Numerals.{add-one}
 use native.Mathlib.Omega.{arith}
-use lib.IntN.{ℤ, pos, negsuc, natAbs, _+ℤ_}
-use lib.Signed.{ltZ, _≤ℤ_, ≤ℤ-refl, ltZ-yes, ltZ-no, clashℤ}
-use borrow.Author.Tests.{le-leb}
+use lib.ListN.{length, getD, drop, take}
+use lib.Seq.{take-at}
+use lib.IntN.{ℤ, pos}
+use lib.Signed.{_≤ℤ_}
+use Rattle.bits.proofs.Tests.{T-true}
+use Rattle.sets.specs.Sets.{indicesIn, inRange}
 use Rattle.sets.specs.declared.ParameterSet.{ParameterSet}
-use Rattle.codebook.specs.Rows.{lsfFits, allFit}
-use Rattle.codebook_values.specs.Values.{added, addedFour, larger, spacing, raised, rowsFit, lsfValues}
-use Rattle.codebook_values.specs.Spacing.{Spaced, sumFits, LsfSpacing}
-use Rattle.codebook_values.proofs.FourRows.{and-four}
-use Rattle.codebook_values.proofs.Sizes.{four-abs-le}
+use Rattle.codebook.specs.Rows.{lsfSize}
+use Rattle.codebook_values.specs.Values.{addedFour, spacing, raised, highest, lowered, rowsValues, rowsFit, ofRows, lsfRefusal, valuesUnless, lsfValues, lsfAnswer, lsfWrites}
+use Rattle.codebook_values.specs.Spacing.{Spaced, InBand, LsfSpacing}
+use Rattle.codebook_values.specs.Checks.{rowsTable}
+use Rattle.codebook_values.specs.declared.ValuesAnswer.the-variants.{Written}
+use Rattle.codebook_values.proofs.Answers.{table-passed}
+use Rattle.codebook_values.proofs.Lengths.{lsf-length}
+use Rattle.codebook_values.proofs.Lowered.{lowered-length, lowered-le, lowered-spaced, lowered-kept}
+use Rattle.codebook_values.proofs.Spaced.{raised-spaced, spaced-kept, spaced-from, spaced-apart, apart-spaced}
+use Rattle.codebook_values.proofs.Sums.{sums-fits}
 
--- the larger of two is at least the second
-larger-le : (x least : ℤ) → least ≤ℤ larger x least
-larger-le x least = go (ltZ x least) refl
-  where
-    go : (t : Bool) → ltZ x least ≡ t → least ≤ℤ cond t least x
-    go true e = ≤ℤ-refl least
-    go false e = ltZ-no (rw e tt)
+-- ten spaced values none of which is above 3,950 Hz
+spaced-band : (values : List ℤ) → length values ≡ 10 → Spaced spacing values → ((i : ℕ) → i < length values → getD values i (pos 0) ≤ℤ highest) → InBand values
+spaced-band values n s h =
+    record {
+      ten = n;
+      apart = λ i k. rw add-one (spaced-apart spacing values i (omega arith) s);
+      from-50 = λ i k. spaced-from spacing values i (omega arith) s;
+      to-3950 = λ i k. h i (omega arith);
+    }
 
--- and is the first where that is at least the second
-larger-kept : (x least : ℤ) → least ≤ℤ x → larger x least ≡ x
-larger-kept x least h = go (ltZ x least) refl
-  where
-    go : (t : Bool) → ltZ x least ≡ t → cond t least x ≡ x
-    go true e = clashℤ (ltZ-yes (rw e tt)) h
-    go false e = refl
+-- and back
+band-spaced : (values : List ℤ) → InBand values → Spaced spacing values
+band-spaced values b =
+    apart-spaced spacing values (λ i h. rw add-one at (b .apart i (omega (arith, b .ten)))) (λ h. b .from-50 0 (omega arith))
 
--- raised values are spaced
-pub raised-spaced : (least : ℤ) (xs : List ℤ) → Spaced least (raised least xs)
-unfolding Spaced raised
-raised-spaced least [] = tt
-raised-spaced least (x ∷ xs) = (larger-le x least, raised-spaced (larger x least +ℤ spacing) xs)
-
--- spaced values stay as they are
-pub spaced-kept : (least : ℤ) (xs : List ℤ) → Spaced least xs → raised least xs ≡ xs
-unfolding Spaced raised
-spaced-kept least [] h = refl
-spaced-kept least (x ∷ xs) h =
-    let y = larger-kept x least (h .0) in
-    ap (λ (z : ℤ). z ∷ raised (z +ℤ spacing) xs) y ∙ ap (λ (zs : List ℤ). x ∷ zs) (spaced-kept (x +ℤ spacing) xs (h .1))
-
--- the LSF values of any codebook and set: component 1 is at least 50 Hz, and neighbours lie at least 50 Hz apart
-pub lsf-spaced : (codebook : List ℤ) (set : ParameterSet) → Spaced spacing (lsfValues codebook set)
+-- the values of a set in range and a whole codebook
+pub lsf-band : (codebook : List ℤ) (set : ParameterSet) → length codebook ≡ lsfSize → inRange set ≡ true → InBand (lsfValues codebook set)
 unfolding lsfValues
-lsf-spaced codebook set = raised-spaced spacing _
+lsf-band codebook set whole range =
+    let n = lsf-length codebook set whole (T-true (inRange set) range) in
+    let room = sym (lowered-length highest _) ∙ n in
+    spaced-band _ n (lowered-spaced 50000000 3950000000 _ (omega (arith, room)) (raised-spaced spacing _)) (lowered-le highest _)
 
--- a size within the bound
-sum-fits : (z : ℤ) → natAbs z ≤ 16000000000 → sumFits z ≡ true
-sum-fits (pos n) h = le-leb n 16000000000 h
-sum-fits (negsuc n) h = rw (le-leb n 15999999999 (omega arith)) refl
+-- an answer with values has no refusal
+written-passed : (n : ℕ) → valuesUnless n ≡ Written → n ≡ 0
+written-passed zero e = refl
+written-passed (suc n) e = cc
 
--- every sum of four rows within the limit
-pub sums-fits : (a b c d : List ℤ) → rowsFit a b c d ≡ true → allFit sumFits (addedFour a b c d) ≡ true
-unfolding allFit added
-sums-fits [] b c d h = refl
-sums-fits (w ∷ a) [] c d h = refl
-sums-fits (w ∷ a) (x ∷ b) [] d h = refl
-sums-fits (w ∷ a) (x ∷ b) (y ∷ c) [] h = refl
-sums-fits (w ∷ a) (x ∷ b) (y ∷ c) (z ∷ d) h =
-    let e = and-four (allFit lsfFits (w ∷ a)) (allFit lsfFits (x ∷ b)) (allFit lsfFits (y ∷ c)) (allFit lsfFits (z ∷ d)) h in
-    let ew = and-eq-true-iff (lsfFits w) (allFit lsfFits a) .0 (e .0) in
-    let ex = and-eq-true-iff (lsfFits x) (allFit lsfFits b) .0 (e .1) in
-    let ey = and-eq-true-iff (lsfFits y) (allFit lsfFits c) .0 (e .2) in
-    let ez = and-eq-true-iff (lsfFits z) (allFit lsfFits d) .0 (e .3) in
-    let here = sum-fits (w +ℤ x +ℤ y +ℤ z) (four-abs-le w x y z (ew .0) (ex .0) (ey .0) (ez .0)) in
-    rw (here, sums-fits a b c d (rw (ew .1, ex .1, ey .1, ez .1) refl)) refl
+-- a call that is not refused leaves them in front of its output
+lsf-written : (set : ParameterSet) (codebook out : List ℤ) → lsfAnswer set codebook (length out) ≡ Written → InBand (take 10 (lsfWrites set codebook out))
+unfolding lsfAnswer lsfWrites
+lsf-written set codebook out e =
+    let passed = written-passed (lsfRefusal set codebook (length out)) e in
+    let p = table-passed set codebook lsfSize out (rowsTable (ofRows rowsFit codebook (indicesIn set))) passed in
+    let band = lsf-band codebook set (p .whole) (p .range) in
+    rw (passed, take-at (lsfValues codebook set) (drop 10 out) 10 (band .ten)) band
+
+-- values in bounds are not lowered
+band-kept : (values : List ℤ) → InBand values → lowered highest values ≡ values
+band-kept values b = lowered-kept spacing highest values (band-spaced values b) (λ i h. b .to-3950 i (omega (arith, b .ten)))
+
+-- nor raised
+rows-kept : (a b c d : List ℤ) → InBand (addedFour a b c d) → rowsValues a b c d ≡ addedFour a b c d
+rows-kept a b c d h = let sums = addedFour a b c d in ap (lowered highest) (spaced-kept spacing sums (band-spaced sums h)) ∙ band-kept sums h
 
 -- all together
 pub lsf-spacing : LsfSpacing
-lsf-spacing = record { apart = lsf-spaced; kept = spaced-kept; bounded = sums-fits }
+lsf-spacing = record { written = lsf-written; kept = rows-kept; raised-kept = λ sums h. band-kept (raised spacing sums) h; bounded = sums-fits }

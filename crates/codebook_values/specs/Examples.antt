@@ -1,5 +1,5 @@
--- Document 01, "LSF and magnitude values" and "Refusals by place", in numbers: the rows that a set names, and what is refused. Each fact is
--- about what the calls answer or write.
+-- Document 01, "LSF and magnitude values" and "Refusals by place", and document 02, T-03, in numbers: the rows that a set names, sums that run
+-- off the top, and what is refused. Each fact is about what the calls answer or write.
 use Prim.Native.Nat.{ℕ, _*_}
 use mathlib.Core.Path.{_≡_}
 use mathlib.Core.Bool.{cond}
@@ -37,6 +37,22 @@ abbrev pub fourEntries : List ℤ
 fourEntries =
     hertz (cut (λ i. cond (eqb i 10) 1000 (cond (eqb i 1300) 200 (cond (eqb i 1950) 30 (cond (eqb i 2600) 4 0)))) 0 3200)
 
+-- these ten sums in hertz as row 1 of stage 1, and all else 0
+abbrev pub oneRow : List ℕ → List ℤ
+oneRow sums = hertz (replicate 10 0 ++ sums ++ replicate 3180 0)
+
+-- sums that run off the top (document 02, T-03)
+pub record Lowered : Type 0 where
+  -- 3,900, 3,910 and 3,990 Hz are raised to 3,930, 3,980 and 4,030, and then the last four come down
+  pub last-four : lsfWrites unvoiced (oneRow (300 ∷ 900 ∷ 1500 ∷ 2100 ∷ 2700 ∷ 3300 ∷ 3880 ∷ 3900 ∷ 3910 ∷ 3990 ∷ [])) (counting 0 12)
+      ≡ hertz (300 ∷ 900 ∷ 1500 ∷ 2100 ∷ 2700 ∷ 3300 ∷ 3800 ∷ 3850 ∷ 3900 ∷ 3950 ∷ []) ++ counting 10 2
+  -- 3,950 Hz may be reached
+  pub top-kept : lsfWrites unvoiced (oneRow (300 ∷ 900 ∷ 1500 ∷ 2100 ∷ 2700 ∷ 3300 ∷ 3800 ∷ 3850 ∷ 3900 ∷ 3950 ∷ [])) (counting 0 10)
+      ≡ hertz (300 ∷ 900 ∷ 1500 ∷ 2100 ∷ 2700 ∷ 3300 ∷ 3800 ∷ 3850 ∷ 3900 ∷ 3950 ∷ [])
+  -- a first sum at its limit carries all others with it, before any is lowered
+  pub raised-first : lsfWrites unvoiced (oneRow (4000 ∷ replicate 9 0)) (counting 0 10)
+      ≡ hertz (3500 ∷ 3550 ∷ 3600 ∷ 3650 ∷ 3700 ∷ 3750 ∷ 3800 ∷ 3850 ∷ 3900 ∷ 3950 ∷ [])
+
 -- the values, in front of an output of twelve numbers
 pub record Values : Type 0 where
   pub one-row-of-each-stage : lsfWrites unvoiced fourEntries (counting 0 12)
@@ -65,4 +81,5 @@ pub record Refusals : Type 0 where
 -- all together
 pub record Examples : Type 0 where
   pub values : Values
+  pub lowered : Lowered
   pub refusals : Refusals

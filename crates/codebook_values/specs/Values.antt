@@ -1,11 +1,11 @@
--- Document 01, "LSF and magnitude values" and "Refusals by place": the ten values of a set, and what a call for them answers and leaves.
--- LSF values are those of MIL-STD-3005, 5.3.4, magnitudes those of 5.3.5.
+-- Document 01, "LSF and magnitude values" and "Refusals by place", with document 02, T-03: the ten values of a set, and what a call for them
+-- answers and leaves. LSF values are those of MIL-STD-3005, 5.3.4, magnitudes those of 5.3.5.
 use Prim.Native.Nat.{ℕ, zero, suc}
 use mathlib.Core.Bool.{Bool, true, not, _&&_, cond}
 use mathlib.Core.List.{List, [], _∷_}
 use lib.Dec.{ltb, eqb}
 use lib.ListN.{length, replicate}
-use lib.IntN.{ℤ, pos, _+ℤ_}
+use lib.IntN.{ℤ, pos, _+ℤ_, _-ℤ_}
 use lib.Signed.{ltZ}
 use Rattle.bits.specs.Lists.{writtenUnless}
 use Rattle.bits.specs.Refusals.{Table, firstRefusal}
@@ -41,9 +41,27 @@ unfoldable pub raised : ℤ → List ℤ → List ℤ
 raised least [] = []
 raised least (x ∷ xs) = let y = larger x least in y ∷ raised (y +ℤ spacing) xs
 
--- the LSF values of four rows
+-- the smaller of two numbers
+abbrev pub smaller : ℤ → ℤ → ℤ
+smaller x y = cond (ltZ y x) y x
+
+-- 3,950 Hz: the most that the tenth component may be (document 02, T-03)
+abbrev pub highest : ℤ
+highest = pos 3950000000
+
+-- the most that is asked of a component, by those above it as they are lowered: `most` of the last, of each other the next minus 50 Hz
+abbrev pub mostBelow : ℤ → List ℤ → ℤ
+mostBelow most [] = most
+mostBelow most (next ∷ above) = next -ℤ spacing
+
+-- each component lowered to at most what is asked of it, from the last one down (document 02, T-03)
+unfoldable pub lowered : ℤ → List ℤ → List ℤ
+lowered most [] = []
+lowered most (x ∷ xs) = let above = lowered most xs in smaller x (mostBelow most above) ∷ above
+
+-- the LSF values of four rows: added, then raised, then lowered
 abbrev pub rowsValues : List ℤ → List ℤ → List ℤ → List ℤ → List ℤ
-rowsValues a b c d = raised spacing (addedFour a b c d)
+rowsValues a b c d = lowered highest (raised spacing (addedFour a b c d))
 
 -- whether every entry of four rows is within the limit of LSF entries
 abbrev pub rowsFit : List ℤ → List ℤ → List ℤ → List ℤ → Bool

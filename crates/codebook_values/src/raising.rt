@@ -1,4 +1,6 @@
 // Sums of four rows, raised so that neighbours lie apart (MIL-STD-3005, 5.3.4).
+use crate::arithmetic::larger;
+use crate::arithmetic::sum;
 ghost use mathlib.Core.Path.{_≡_};
 ghost use mathlib.Core.Bool.{true};
 ghost use mathlib.Core.List.{_++_};
@@ -6,16 +8,16 @@ ghost use Prim.Native.Nat.{_≤_, _<_};
 ghost use lib.ListN.{length, getD, drop};
 ghost use lib.IntN.{pos, natAbs, _+ℤ_};
 ghost use Rattle.codebook.specs.Rows.{lsfFits};
-ghost use Rattle.codebook_values.specs.Values.{addedFour, larger, rowsValues, rowsFit};
+ghost use Rattle.codebook_values.specs.Values.{addedFour, spacing, raised, rowsFit};
 
 // 50 Hz: the least that component 1 may be, and the least that two neighbours may lie apart.
-const SPACING: i64 = 50_000_000;
+pub(crate) const SPACING: i64 = 50_000_000;
 
-// The values of four rows within the limit: each sum raised to at least what is asked of it.
+// The sums of four rows within the limit to the front of `out`, each raised to at least what is asked of it.
 pub(crate) fn write_raised(a: &[i64], b: &[i64], c: &[i64], d: &[i64], out: &mut [i64])
     requires { ⌜ (length (now a) ≡ 10) × (length (now b) ≡ 10) × (length (now c) ≡ 10) × (length (now d) ≡ 10) × (10 ≤ length (now out)) ⌝ }
     requires { ⌜ rowsFit (now a) (now b) (now c) (now d) ≡ true ⌝ }
-    ensures { λ _. ⌜ now (out .exit) ≡ rowsValues (now (a .entry)) (now (b .entry)) (now (c .entry)) (now (d .entry)) ++ drop 10 (now (out .entry)) ⌝ }
+    ensures { λ _. ⌜ now (out .exit) ≡ raised spacing (addedFour (now (a .entry)) (now (b .entry)) (now (c .entry)) (now (d .entry))) ++ drop 10 (now (out .entry)) ⌝ }
 {
     let mut least = SPACING;
     for k in 0..10 {
@@ -42,19 +44,4 @@ fn four_sum(a: i64, b: i64, c: i64, d: i64) -> i64
     ensures bound { λ r. ⌜ natAbs r ≤ 16000000000 ⌝ }
 {
     sum(sum(sum(a, b), c), d)
-}
-
-// The sum of two numbers that are far from the ends of the type.
-fn sum(x: i64, y: i64) -> i64
-    requires { ⌜ (natAbs x ≤ 20000000000) × (natAbs y ≤ 20000000000) ⌝ }
-    ensures { λ r. ⌜ r ≡ x +ℤ y ⌝ }
-{
-    x + y
-}
-
-// The larger of two numbers.
-fn larger(x: i64, y: i64) -> i64
-    ensures { λ r. ⌜ r ≡ larger x y ⌝ }
-{
-    if x < y { y } else { x }
 }

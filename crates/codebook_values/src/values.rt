@@ -1,5 +1,6 @@
 // LSF values (MIL-STD-3005, 5.3.4) and Fourier magnitudes (5.3.5) of a parameter set.
 use crate::ValuesAnswer;
+use crate::lowering::lower;
 use crate::raising::write_raised;
 use crate::writing::write_row;
 use codebook::lsf_row;
@@ -8,9 +9,12 @@ use sets::ParameterSet;
 use sets::indices_of;
 use sets::is_in_range;
 ghost use mathlib.Core.Path.{_≡_};
-ghost use lib.ListN.{length};
+ghost use mathlib.Core.Bool.{true};
+ghost use mathlib.Core.List.{_++_};
+ghost use Prim.Native.Nat.{_≤_};
+ghost use lib.ListN.{length, drop};
 ghost use Rattle.bits.specs.Refusals.{firstRefusal};
-ghost use Rattle.codebook_values.specs.Values.{lsfAnswer, lsfWrites, magnitudesAnswer, magnitudesWrites};
+ghost use Rattle.codebook_values.specs.Values.{rowsValues, rowsFit, lsfAnswer, lsfWrites, magnitudesAnswer, magnitudesWrites};
 ghost use Rattle.codebook_values.specs.Checks.{earlyTable};
 
 // How many numbers each codebook has.
@@ -37,10 +41,20 @@ pub fn lsf_values(set: ParameterSet, codebook: &[i64], out: &mut [i64]) -> Value
     let c = lsf_row(codebook, 3, x.l3);
     let d = lsf_row(codebook, 4, x.l4);
     if (a.len() == 10) & (b.len() == 10) & (c.len() == 10) & (d.len() == 10) {
-        write_raised(a, b, c, d, out);
+        write_values(a, b, c, d, out);
         return ValuesAnswer::Written;
     }
     ValuesAnswer::Refused(7)
+}
+
+// The values of four rows within the limit to the front of `out`: their sums raised, then lowered.
+fn write_values(a: &[i64], b: &[i64], c: &[i64], d: &[i64], out: &mut [i64])
+    requires { ⌜ (length (now a) ≡ 10) × (length (now b) ≡ 10) × (length (now c) ≡ 10) × (length (now d) ≡ 10) × (10 ≤ length (now out)) ⌝ }
+    requires { ⌜ rowsFit (now a) (now b) (now c) (now d) ≡ true ⌝ }
+    ensures { λ _. ⌜ now (out .exit) ≡ rowsValues (now (a .entry)) (now (b .entry)) (now (c .entry)) (now (d .entry)) ++ drop 10 (now (out .entry)) ⌝ }
+{
+    write_raised(a, b, c, d, out);
+    lower(out);
 }
 
 // The ten magnitudes of a set to the front of `out`, refused likewise; an unvoiced set uses no row.

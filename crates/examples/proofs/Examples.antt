@@ -13,13 +13,13 @@ use Rattle.records.specs.Records.{fresh}
 use Rattle.receiver.specs.Steps.{accepted, repeated}
 use Rattle.receiver.specs.Receiving.{receive}
 use Rattle.codebook.specs.Rows.{stageStart, allFit}
-use Rattle.codebook_values.specs.Values.{added, raised, lsfValues, lsfAnswer, lsfWrites}
+use Rattle.codebook_values.specs.Values.{added, raised, lowered, lsfValues, lsfAnswer, lsfWrites}
 use Rattle.examples.specs.Examples.{Examples}
 use Rattle.examples.proofs.Mute.{mutes}
 
 pub examples : Examples
 unfolding index classOf classAnswer fixOf decode firstLevel firstLevelAnswer nearest chosenG1 chooseAnswer placeOf orderBy defaultOrder frameOf bitAt through
-    words others unvoicedWords logical packAnswer packWrites read fresh accepted repeated receive stageStart allFit added raised lsfValues lsfAnswer lsfWrites
+    words others unvoicedWords logical packAnswer packWrites read fresh accepted repeated receive stageStart allFit added raised lowered lsfValues lsfAnswer lsfWrites
 examples = record {
   example-1 = record { zero-ones = refl; one-one = refl; two-ones = refl; lowest = refl; middle = refl; highest = refl };
   example-2 = record { parity = refl; one-flip = refl; two-flips = refl; three-flips = refl };

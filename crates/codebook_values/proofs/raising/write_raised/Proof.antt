@@ -9,17 +9,17 @@ use mir.Syntax.{w64}
 use mir.Val.{toZ, ofZ}
 use borrow.Author.Needs.{needs}
 use Rattle.bits.proofs.Front.{front-all}
-use Rattle.codebook_values.specs.Values.{addedFour, larger, spacing, raised, rowsValues}
+use Rattle.codebook_values.specs.Values.{addedFour, larger, spacing, raised}
 use Rattle.codebook_values.proofs.Sizes.{number-back, abs-add-le, abs-larger-le}
 use Rattle.codebook_values.proofs.Sums.{four-length}
-use Rattle.codebook_values.proofs.Turns.{raised-length, raised-more}
+use Rattle.codebook_values.proofs.RaisedTurns.{raised-length, raised-more}
 use Rattle.codebook_values.proofs.raising.write_raised.Statement.{statement}
 use Rattle.codebook_values.proofs.raising.write_raised.Tie as tie
 
 abbrev Inv-loop : tie.InvT-loop
 Inv-loop a b c d out₀ least₀ k₀ out least k =
-    (k ≤ 10) × (length out ≡ length out₀) × (raised (toZ w64 least) (drop k (addedFour a b c d)) ≡ drop k (rowsValues a b c d))
-    × (natAbs (toZ w64 least) ≤ 16000000000 + 50000000 * (k + 1)) × (out ≡ take k (rowsValues a b c d) ++ drop k out₀)
+    (k ≤ 10) × (length out ≡ length out₀) × (raised (toZ w64 least) (drop k (addedFour a b c d)) ≡ drop k (raised spacing (addedFour a b c d)))
+    × (natAbs (toZ w64 least) ≤ 16000000000 + 50000000 * (k + 1)) × (out ≡ take k (raised spacing (addedFour a b c d)) ++ drop k out₀)
 
 abbrev μ-loop : tie.MeasureT-loop
 μ-loop a b c d out₀ least₀ k₀ out least k = 10 - k

@@ -61,8 +61,8 @@ rows c =
     four-handed _ _ (x .indices-of .result) (p .whole) (p .range) (x .indices-of .ensures) _ _ _ _
     (b .before .lsf-row .ensures) (b .lsf-row2 .ensures) (c .before .lsf-row3 .ensures) (c .lsf-row4 .ensures)
 
-write-raised-requires : tie.Need-write-raised-requires
-write-raised-requires c κs =
+write-values-requires : tie.Need-write-values-requires
+write-values-requires c κs =
     let t = c .before in
     let f = and-four _ _ _ _ (t .if2 .taken) in
     let long = past (t .before .before .before .before .before .before) .long in
@@ -81,7 +81,7 @@ returns-2 c =
     let k = a .codebook .now in
     let r = rows (t .before) in
     rows-owe (a .set) k lsfSize (a .out .now) (past (x .before)) _ (ofRows rowsFit k (indicesIn (a .set))) _ _ _ _ (r .fit)
-    (λ f. r .are (t .if2 .taken) .0) (written-owes _ (a .out .now) _ (t .if2 .taken) _ (w .write-raised .ensures))
+    (λ f. r .are (t .if2 .taken) .0) (written-owes _ (a .out .now) _ (t .if2 .taken) _ (w .write-values .ensures))
 
 returns-3 : tie.Need-returns-3
 unfolding lsfValues lsfAnswer lsfWrites
@@ -96,4 +96,4 @@ pub lsf-values-spec : {M : Type 1} → statement M
 lsf-values-spec =
     tie.close
     (tie.spec is-in-range-requires values-refusal-requires returns indices-of-requires lsf-row-requires lsf-row-requires-2 lsf-row-requires-3 lsf-row-requires-4
-    write-raised-requires same-length returns-2 returns-3)
+    write-values-requires same-length returns-2 returns-3)
