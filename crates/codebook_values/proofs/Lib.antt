@@ -1,6 +1,6 @@
+pub mod Extremes
 pub mod Sizes
 pub mod Order
-pub mod Extremes
 pub mod FourRows
 pub mod Sums
 pub mod RaisedTurns

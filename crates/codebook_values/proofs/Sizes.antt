@@ -5,15 +5,16 @@ use mathlib.Core.Bool.{Bool, true, false, cond, and-eq-true-iff}
 use Prim.Native.Nat.{ℕ, suc, _+_, _-_, _<_, _≤_, _^_}
 use native.Mathlib.Nat.{le-refl}
 use native.Mathlib.Omega.{arith}
-use lib.Dec.{ltb}
+use lib.Dec.{ltb, leb→le}
 use lib.IntN.{ℤ, pos, negsuc, natAbs, subℕ, _+ℤ_}
 use lib.Signed.{mag, ltZ, _≤ℤ_}
 use mir.Syntax.{w64}
 use mir.Val.{SFits, toZ, ofZ}
 use mir.ValLaws.{toZ-ofZ}
-use borrow.Author.Tests.{ltb-true, ltb-false, leb-true}
+use borrow.Author.Tests.{ltb-true, leb-true}
 use Rattle.codebook.specs.Rows.{lsfFits}
 use Rattle.codebook_values.specs.Values.{larger, smaller}
+use Rattle.codebook_values.proofs.Extremes.{test-cases}
 
 -- the size that a width's range is told by
 mag-le : (z : ℤ) → mag z ≤ natAbs z
@@ -49,21 +50,17 @@ abs-add-le (negsuc a) (negsuc b) = omega arith
 
 -- the larger of two numbers has the size of one of them
 pub abs-larger-le : (x y : ℤ) (n : ℕ) → natAbs x ≤ n → natAbs y ≤ n → natAbs (larger x y) ≤ n
-abs-larger-le x y n hx hy = go (ltZ x y)
-  where
-    go : (t : Bool) → natAbs (cond t y x) ≤ n
-    go true = hy
-    go false = hx
+abs-larger-le x y n hx hy = test-cases (λ z. natAbs z ≤ n) x y y x (λ h. hy) (λ h. hx)
+
+-- of two numbers that are not negative the larger has the larger size
+abs-le : (x y : ℤ) → pos 0 ≤ℤ x → x ≤ℤ y → natAbs x ≤ natAbs y
+abs-le (pos x) (pos y) h k = leb→le x y (k .le)
+abs-le (pos x) (negsuc y) h k = absurd (k .le)
+abs-le (negsuc x) y h k = absurd (h .le)
 
 -- the smaller of two numbers of which the first is not negative is at most as large as the second
 pub abs-smaller-le : (x most : ℤ) → pos 0 ≤ℤ x → natAbs (smaller x most) ≤ natAbs most
-abs-smaller-le (pos x) (pos most) h = go (ltb most x) refl
-  where
-    go : (t : Bool) → ltb most x ≡ t → natAbs (cond t (pos most) (pos x)) ≤ most
-    go true e = le-refl most
-    go false e = ltb-false most x e
-abs-smaller-le (pos x) (negsuc most) h = le-refl (suc most)
-abs-smaller-le (negsuc x) most h = absurd (h .le)
+abs-smaller-le x most h = test-cases (λ z. natAbs z ≤ natAbs most) most x most x (λ t. le-refl (natAbs most)) (abs-le x most h)
 
 -- an LSF entry within its limit
 pub lsf-abs-le : (z : ℤ) → lsfFits z ≡ true → natAbs z ≤ 4000000000
