@@ -4,8 +4,10 @@ pub mod Places
 pub mod Bytes
 pub mod Frames
 pub mod DefaultOrder
+pub mod Carrying
+pub mod Filling
+pub mod Parts
 pub mod Moves
 pub mod DefaultMoves
-pub mod Gathering
 pub mod Refusals
 pub mod Answers

@@ -1,3 +1,4 @@
 pub mod Order
 pub mod Fields
 pub mod Taking
+pub mod Carrying

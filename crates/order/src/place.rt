@@ -1,30 +1,63 @@
 // The seven bytes of 54 logical bits in the default order.
 ghost use mathlib.Core.Path.{_≡_};
-ghost use Prim.Native.Nat.{_*_, _≤_, _<_};
-ghost use lib.ListN.{getD};
-ghost use Rattle.bits.specs.Bits.{bitNum, value, cut, carried};
-ghost use Rattle.order.specs.Order.{defaultOrder, placed, byteOf, frameOf};
+ghost use Prim.Native.Nat.{_+_, _≤_, _<_};
+ghost use Rattle.bits.specs.Bits.{cut, carried};
+ghost use Rattle.order.specs.Order.{defaultOrder, byteOf, frameOf};
+ghost use Rattle.order.specs.Carrying.{nextPlace, OneAt, Joined, UnderWay};
 
-// The logical bit that goes to place t; logical bit 0 is the most significant of the 54.
-fn placed_bit(bits: u64, t: usize) -> u64
-    requires { ⌜ t < 54 ⌝ }
-    ensures named { λ r. ⌜ r ≡ bitNum (carried 54 bits (getD defaultOrder t 0)) ⌝ }
-    ensures bound { λ r. ⌜ r ≤ 1 ⌝ }
-{
-    (bits >> (53 - DEFAULT_ORDER[t])) % 2
+// Packing under way: the next logical bit, its place, and the places filled so far, place 0 the most significant of 56 bits. They
+// are kept in nine parts, each with every ninth logical bit: those move equally far, so that a compiler moves them together.
+struct Placing {
+    bit: usize,
+    place: usize,
+    parts: [u64; 9],
 }
 
-// What stands at the six places from 6 × a on.
-fn six_places(bits: u64, a: usize) -> u64
-    requires { ⌜ a < 9 ⌝ }
-    ensures placed { λ r. ⌜ r ≡ value (cut (placed defaultOrder (carried 54 bits)) (6 * a) 6) ⌝ }
-    ensures bound { λ r. ⌜ r < 64 ⌝ }
+// The place of the next logical bit.
+fn next_place(place: usize) -> usize
+    requires { ⌜ place < 54 ⌝ }
+    ensures { λ r. ⌜ r ≡ nextPlace place ⌝ }
 {
-    let mut six: u64 = 0;
-    for b in 0..6 {
-        six = six * 2 + placed_bit(bits, 6 * a + b);
+    let next = place + 7;
+    if 54 <= next { next - 54 } else { next }
+}
+
+// Logical bit j at a place, with 0 at every other.
+fn bit_at_place(bits: u64, j: usize, place: usize) -> u64
+    requires { ⌜ (j < 54) × (place < 54) ⌝ }
+    ensures { λ r. ⌜ OneAt place (carried 54 bits j) r ⌝ }
+{
+    ((bits << (2 + j)) & FIRST_PLACE) >> place
+}
+
+// Nine logical bits more, each at the place that is carried to it.
+fn place_nine(bits: u64, from: Placing) -> Placing
+    requires { ⌜ (from .bit ≤ 45) × UnderWay (carried 54 bits) (from .bit) (from .place) (from .parts) ⌝ }
+    ensures counted { λ r. ⌜ r .bit ≡ from .bit + 9 ⌝ }
+    ensures placed { λ r. ⌜ UnderWay (carried 54 bits) (r .bit) (r .place) (r .parts) ⌝ }
+{
+    let mut place = from.place;
+    let mut parts = from.parts;
+    for i in 0..9 {
+        parts[i] = parts[i] | bit_at_place(bits, from.bit + i, place);
+        place = next_place(place);
     }
-    six
+    Placing {
+        bit: from.bit + 9,
+        place,
+        parts,
+    }
+}
+
+// The parts as one number.
+fn joined(parts: [u64; 9]) -> u64
+    ensures { λ r. ⌜ Joined parts r ⌝ }
+{
+    let mut all: u64 = 0;
+    for part in 0..9 {
+        all = all | parts[part];
+    }
+    all
 }
 
 // The seven bytes of a number's low 56 bits, most significant first.
@@ -42,71 +75,21 @@ fn seven_bytes(bits: u64) -> [u8; 7]
     ]
 }
 
-// The frame of the logical bits in the low 54 bits of a number. The places are filled six at a time: so short a loop is unrolled.
+// The frame of the logical bits in the low 54 bits of a number.
 pub fn place_bits(bits: u64) -> [u8; 7]
     ensures { λ r. ⌜ r ≡ frameOf defaultOrder (carried 54 bits) ⌝ }
 {
-    let mut placed: u64 = 0;
-    for a in 0..9 {
-        placed = placed * 64 + six_places(bits, a);
+    let mut placing = Placing {
+        bit: 0,
+        place: 0,
+        parts: [0; 9],
+    };
+    while placing.bit < 54 {
+        placing = place_nine(bits, placing);
     }
-    seven_bytes(placed * 4)
+    let parts = placing.parts;
+    seven_bytes(joined(parts))
 }
 
-// Entry t names the logical bit at place t.
-const DEFAULT_ORDER: [u8; 54] = [
-    0,
-    31,
-    8,
-    39,
-    16,
-    47,
-    24,
-    1,
-    32,
-    9,
-    40,
-    17,
-    48,
-    25,
-    2,
-    33,
-    10,
-    41,
-    18,
-    49,
-    26,
-    3,
-    34,
-    11,
-    42,
-    19,
-    50,
-    27,
-    4,
-    35,
-    12,
-    43,
-    20,
-    51,
-    28,
-    5,
-    36,
-    13,
-    44,
-    21,
-    52,
-    29,
-    6,
-    37,
-    14,
-    45,
-    22,
-    53,
-    30,
-    7,
-    38,
-    15,
-    46,
-    23,
-];
+// The bit of place 0: 2 to the 55th.
+const FIRST_PLACE: u64 = 0x80_0000_0000_0000;
