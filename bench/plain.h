@@ -7,12 +7,22 @@
 
 #include "melp.h"
 
+/* The place of logical bit j: from the table, or where PRODUCT is set by a product and a remainder. */
+static inline unsigned place_of(int j)
+{
+#ifdef PRODUCT
+    return 7u * (unsigned)j % FRAME_BITS;
+#else
+    return PLACE[j];
+#endif
+}
+
 /* The logical bits of a frame, bit 0 the most significant of 54, each from its place. */
 static inline uint64_t logical_bits(const uint8_t *frame)
 {
     uint64_t bits = 0;
     for (int j = 0; j < FRAME_BITS; j++) {
-        unsigned place = PLACE[j];
+        unsigned place = place_of(j);
         bits = bits << 1 | (frame[place / 8] >> (7 - place % 8) & 1);
     }
     return bits;
@@ -30,7 +40,7 @@ static inline void place_bits(uint64_t bits, uint8_t *frame)
     memset(frame, 0, FRAME_BYTES);
     for (int j = 0; j < FRAME_BITS; j++)
         if (bits >> (FRAME_BITS - 1 - j) & 1)
-            flip(frame, PLACE[j]);
+            flip(frame, place_of(j));
 }
 
 /* Of each pitch code how many smaller ones have at least three ones: its index where it is voiced. */

@@ -2,8 +2,9 @@
 # run.sh [HEAR]: instructions a frame of the proved programs and of the same programs in C, on the same input: hear; receive by
 # itself (bench_receive); pack, with the set read from its bytes (send); session files of 1,000 and of 2,000 frames (to_session and
 # from_session). "less it" is without those for an empty input, from_session's the file of no frames, and the ratio is that of the
-# proved program to each. Status 1 if they write different bytes, or if hear or receive takes more than in plain C. HEAR stands in
-# for target/bin/hear. Needs clang, valgrind and the proved programs (rt check hear bench_receive send to_session from_session).
+# proved program to each. Status 1 if they write different bytes, if hear or receive takes more than in plain C, or if pack takes
+# more than 0.45 of it. HEAR stands in for target/bin/hear. Needs clang, valgrind and the proved programs (rt check hear
+# bench_receive send to_session from_session).
 set -euo pipefail
 top=$(cd "$(dirname "$0")/.." && pwd)
 hear=$(realpath "${1:-$top/target/bin/hear}")
@@ -45,6 +46,7 @@ measure() {
   for manner in "${@:6}"; do
     case $manner in
     'plain C') build c "$3" ;;
+    'plain C, product') build c "$3" -DPRODUCT ;;
     'tuned C') build c "$3" -DTUNED ;;
     *) build c "$3" -DTUNED -DMOVES ;;
     esac
@@ -54,10 +56,10 @@ measure() {
   done
 }
 
-# fewer WHAT: the proved program takes no more than plain C.
-fewer() {
-  if ((proved > plain)); then
-    echo "$1: the proved program takes more instructions than plain C"
+# within WHAT PARTS: the proved program takes at most so many hundredths of plain C's instructions.
+within() {
+  if ((100 * proved > $2 * plain)); then
+    echo "$1: the proved program takes more than $2 hundredths of plain C's instructions"
     exit 1
   fi
 }
@@ -83,9 +85,10 @@ build to_session to_session.c
 clang --version | head -n 1
 printf '%-17s %-18s %12s %9s %12s %9s %6s\n' what program instructions 'a frame' 'empty input' 'less it' ratio
 measure hear "$hear" hear.c "$work/input" $frames 'plain C' 'tuned C' 'tuned C, by moves'
-fewer hear
+within hear 100
 measure receive "$top/target/bin/bench_receive" receive.c "$work/input" $frames 'plain C' 'tuned C' 'tuned C, by moves'
-fewer receive
-measure pack "$top/target/bin/send" send.c "$work/sets" $sets 'plain C' 'tuned C'
+within receive 100
+measure pack "$top/target/bin/send" send.c "$work/sets" $sets 'plain C' 'plain C, product' 'tuned C'
+within pack 45
 session 1000
 session 2000
