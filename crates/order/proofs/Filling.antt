@@ -10,7 +10,7 @@ use lib.Dec.{eqb, ltb}
 use lib.ListN.{getD}
 use borrow.Author.Tests.{eqb-true, eqb-false, eq-eqb, ne-eqb, ltb-true, ltb-false, lt-ltb, le-ltb}
 use Rattle.order.specs.Order.{Order, placeOf, placed}
-use Rattle.order.specs.Carrying.{firstBits}
+use Rattle.order.specs.Filling.{firstBits}
 use Rattle.order.proofs.Places.{entry-lt, entry-back, place-lt, place-back}
 
 -- before the first bit every place is 0

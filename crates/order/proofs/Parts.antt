@@ -14,7 +14,8 @@ use Rattle.bits.specs.Bits.{bit, carried}
 use Rattle.bits.proofs.Bitwise.{zero-bit, bit-or}
 use Rattle.bits.proofs.Digits.{bits-at}
 use Rattle.order.specs.Order.{defaultOrder, placed, bytesOf, frameOf}
-use Rattle.order.specs.Carrying.{carriedPlace, firstBits, OneAt, anyBit, Joined, Filled}
+use Rattle.order.specs.Carrying.{carriedPlace}
+use Rattle.order.specs.Filling.{firstBits, OneAt, anyBit, Joined, Filled}
 use Rattle.order.proofs.Bytes.{bytes-ext}
 use Rattle.order.proofs.DefaultOrder.{default-order}
 use Rattle.order.proofs.Carrying.{carried-place}

@@ -3,7 +3,8 @@ ghost use mathlib.Core.Path.{_≡_};
 ghost use Prim.Native.Nat.{_+_, _≤_, _<_};
 ghost use Rattle.bits.specs.Bits.{cut, carried};
 ghost use Rattle.order.specs.Order.{defaultOrder, byteOf, frameOf};
-ghost use Rattle.order.specs.Carrying.{nextPlace, OneAt, Joined, UnderWay};
+ghost use Rattle.order.specs.Carrying.{nextPlace};
+ghost use Rattle.order.specs.Filling.{OneAt, Joined, UnderWay};
 
 // Packing under way: the next logical bit, its place, and the places filled so far, place 0 the most significant of 56 bits. They
 // are kept in nine parts, each with every ninth logical bit: those move equally far, so that a compiler moves them together.

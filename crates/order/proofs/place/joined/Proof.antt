@@ -7,7 +7,7 @@ use native.Mathlib.Omega.{arith}
 use lib.ListN.{length, drop, drop-of-length-le}
 use Rattle.bits.specs.Bits.{bit}
 use Rattle.bits.proofs.Bitwise.{zero-bit}
-use Rattle.order.specs.Carrying.{anyBit}
+use Rattle.order.specs.Filling.{anyBit}
 use Rattle.order.proofs.Parts.{any-next}
 use Rattle.order.proofs.place.joined.Statement.{statement}
 use Rattle.order.proofs.place.joined.Tie as tie

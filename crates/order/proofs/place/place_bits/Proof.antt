@@ -4,7 +4,8 @@ use mathlib.Core.Bool.{Bool}
 use Prim.Native.Nat.{ℕ, _-_, _%_, _≤_}
 use native.Mathlib.Omega.{arith}
 use Rattle.bits.specs.Bits.{carried}
-use Rattle.order.specs.Carrying.{carriedPlace, Filled, UnderWay}
+use Rattle.order.specs.Carrying.{carriedPlace}
+use Rattle.order.specs.Filling.{Filled, UnderWay}
 use Rattle.order.proofs.Parts.{filled-none, filled-frame}
 use Rattle.order.proofs.place.place_bits.Statement.{statement}
 use Rattle.order.proofs.place.place_bits.Tie as tie

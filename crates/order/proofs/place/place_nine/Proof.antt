@@ -4,7 +4,7 @@ use Prim.Native.Nat.{ℕ, suc, _+_, _-_, _≤_}
 use native.Mathlib.Omega.{arith}
 use lib.ListN.{length-set}
 use Rattle.bits.specs.Bits.{carried}
-use Rattle.order.specs.Carrying.{UnderWay}
+use Rattle.order.specs.Filling.{UnderWay}
 use Rattle.order.proofs.Carrying.{carried-more, carried-lt}
 use Rattle.order.proofs.Parts.{filled-more}
 use Rattle.order.proofs.place.place_nine.Statement.{statement}
