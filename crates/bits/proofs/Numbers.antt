@@ -1,18 +1,22 @@
--- Bits carried in one number: a part of them is a shift and a remainder, and they are gathered into a number in groups.
+-- Bits carried in one number: a bit is a shift, a part of them a shift and a remainder, and bits are gathered into a number one by one or in groups.
 -- Assumes nothing.
 use mathlib.Core.Path.{_≡_, sym, ap, _∙_}
 use mathlib.Core.Bool.{Bool, false}
 use mathlib.Core.List.{List}
-use Prim.Native.Nat.{ℕ, _+_, _*_, _/_, _%_, _^_, _≤_, _<_}
+use Prim.Native.Nat.{ℕ, suc, _+_, _*_, _-_, _/_, _%_, _^_, _≤_, _<_}
 use native.Mathlib.Nat.{zero-add, mul-suc, lt-of-lt-of-le}
 use native.Mathlib.Numerals.{add-one}
 use native.Mathlib.Omega.{arith}
 use lib.ListN.{getD, take}
 use lib.Pow.{pow-mono}
-use Rattle.bits.specs.Bits.{value, bits, cut, carried}
+use Rattle.bits.specs.Bits.{bitNum, value, bits, cut, carried}
 use Rattle.bits.proofs.Cut.{cut-length, cut-at, cut-append, cut-part}
 use Rattle.bits.proofs.Value.{value-bound, value-join}
-use Rattle.bits.proofs.Digits.{value-bits-mod, bits-value, take-bits, drop-bits, bits-length}
+use Rattle.bits.proofs.Digits.{value-bits-mod, bits-value, bits-at, bit-is, take-bits, drop-bits, bits-length}
+
+-- bit j of n is a shift and a remainder
+pub carried-bit : (n number j : ℕ) → j < n → number / 2 ^ (n - suc j) % 2 ≡ bitNum (carried n number j)
+carried-bit n number j h = sym (ap bitNum (bits-at n j number h) ∙ bit-is (n - suc j) number)
 
 -- k bits from a on are a shift and a remainder
 pub carried-part : (a k c number : ℕ) → value (cut (carried (a + (k + c)) number) a k) ≡ number / 2 ^ c % 2 ^ k
@@ -22,9 +26,13 @@ carried-part a k c number =
     ∙ value-bits-mod k (number / 2 ^ c)
 
 -- n places from a on, and the m after them: the first number moves up by m
-value-more : (h : ℕ → Bool) (a n m x y : ℕ) → x ≡ value (cut h a n) → y ≡ value (cut h (a + n) m) → x * 2 ^ m + y ≡ value (cut h a (n + m))
+pub value-more : (h : ℕ → Bool) (a n m x y : ℕ) → x ≡ value (cut h a n) → y ≡ value (cut h (a + n) m) → x * 2 ^ m + y ≡ value (cut h a (n + m))
 value-more h a n m x y e f =
     sym (ap value (cut-append h a n m) ∙ value-join (cut h a n) (cut h (a + n) m) m x y (cut-length h (a + n) m) (sym e) (sym f))
+
+-- one place more
+pub bit-more : (h : ℕ → Bool) (a n x b : ℕ) → x ≡ value (cut h a n) → b ≡ bitNum (h (a + n)) → x * 2 + b ≡ value (cut h a (n + 1))
+bit-more h a n x b e f = value-more h a n 1 x b e (omega arith)
 
 -- one group of k places more
 pub group-more : (h : ℕ → Bool) (k i x y : ℕ) → x ≡ value (cut h 0 (k * i)) → y ≡ value (cut h (k * i) k) → x * 2 ^ k + y ≡ value (cut h 0 (k * (i + 1)))

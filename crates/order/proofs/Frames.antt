@@ -16,10 +16,10 @@ use Rattle.order.proofs.Places.{entry-back, place-lt, place-back}
 use Rattle.order.proofs.Bytes.{place-bit, bytes-ext, bytes-back}
 
 -- what is placed below 54, and past it
-placed-below : (ord : List ℕ) (g : ℕ → Bool) (t : ℕ) → t < 54 → placed ord g t ≡ g (getD ord t 0)
+pub placed-below : (ord : List ℕ) (g : ℕ → Bool) (t : ℕ) → t < 54 → placed ord g t ≡ g (getD ord t 0)
 placed-below ord g t h = rw (lt-ltb t 54 h) refl
 
-placed-past : (ord : List ℕ) (g : ℕ → Bool) (t : ℕ) → 54 ≤ t → placed ord g t ≡ false
+pub placed-past : (ord : List ℕ) (g : ℕ → Bool) (t : ℕ) → 54 ≤ t → placed ord g t ≡ false
 placed-past ord g t h = rw (le-ltb t 54 h) refl
 
 module _ (ord : List ℕ) (o : Order ord) (g : ℕ → Bool) where
