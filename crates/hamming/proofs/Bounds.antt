@@ -11,7 +11,7 @@ use Rattle.hamming.specs.Word.{dataBits, dataOf, syndrome, flipAt, Fix, 
 use Rattle.hamming.proofs.Words.{flip-length}
 
 -- the data of a word of n bits
-data-length : (n : ℕ) (w : List Bool) → length w ≡ n → length (dataOf n w) ≡ dataBits n
+pub data-length : (n : ℕ) (w : List Bool) → length w ≡ n → length (dataOf n w) ≡ dataBits n
 data-length n w e = length-take (dataBits n) w ∙ omega arith
 
 -- every request leaves an outcome that fits the word

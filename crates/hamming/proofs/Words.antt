@@ -57,7 +57,7 @@ module _ (n : ℕ) (l : 6 ≤ n) (m : n ≤ 8) where
   expected w = value (parityOf n (bits (dataBits n) (w / 2 ^ checkBits n)))
 
   -- as many parity bits as a word has room for
-  parity-length : (d : List Bool) → length d ≡ dataBits n → length (parityOf n d) ≡ checkBits n
+  pub parity-length : (d : List Bool) → length d ≡ dataBits n → length (parityOf n d) ≡ checkBits n
   parity-length d h =
       eqb→eq _ _ (all-patterns-at (dataBits n) (λ d. eqb (length (parityOf n d)) (checkBits n))
       (lengths-at (λ n. allPatterns (dataBits n) (λ d. eqb (length (parityOf n d)) (checkBits n))) tt n l m) d h)
@@ -83,7 +83,7 @@ module _ (n : ℕ) (l : 6 ≤ n) (m : n ≤ 8) where
   received-lt w = check-lt _ (mod-lt w (pow-pos (checkBits n)))
 
   -- the received parity is the low bits
-  received-bits : (w : ℕ) → drop (dataBits n) (bits n w) ≡ bits (checkBits n) w
+  pub received-bits : (w : ℕ) → drop (dataBits n) (bits n w) ≡ bits (checkBits n) w
   received-bits w = ap (λ (k : ℕ). drop (dataBits n) (bits k w)) (sym split-length) ∙ drop-bits (dataBits n) (checkBits n) w
 
   -- a syndrome has as many bits as the parity

@@ -1,0 +1,9 @@
+pub mod Least
+pub mod Weights
+pub mod Splitting
+pub mod Sums
+pub mod Parts
+pub mod Entries
+pub mod Keys
+pub mod Counts
+pub mod Outcomes

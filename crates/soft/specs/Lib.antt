@@ -1,0 +1,3 @@
+pub mod Least
+pub mod Choice
+pub mod Prices
