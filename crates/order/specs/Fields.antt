@@ -4,17 +4,17 @@ use mathlib.Core.Bool.{Bool}
 use mathlib.Core.List.{List}
 use Rattle.bits.specs.Bits.{cut}
 
--- the four words, of each the data and then the parity places
-abbrev pub wordA : (ℕ → Bool) → List Bool
+-- the four words, of each the data and then the parity places; of bits, and of whatever else the logical bits have
+abbrev pub wordA : {A : Type 0} → (ℕ → A) → List A
 wordA g = cut g 0 8
 
-abbrev pub wordB : (ℕ → Bool) → List Bool
+abbrev pub wordB : {A : Type 0} → (ℕ → A) → List A
 wordB g = cut g 8 6
 
-abbrev pub wordC : (ℕ → Bool) → List Bool
+abbrev pub wordC : {A : Type 0} → (ℕ → A) → List A
 wordC g = cut g 14 7
 
-abbrev pub wordD : (ℕ → Bool) → List Bool
+abbrev pub wordD : {A : Type 0} → (ℕ → A) → List A
 wordD g = cut g 21 7
 
 -- the pitch code

@@ -20,7 +20,8 @@ use Rattle.sets.specs.declared.ParameterSet.the-variants.{Unvoiced, Voiced}
 use Rattle.reading.specs.declared.Reading.the-variants.{Accepted}
 
 module _ (g h : ℕ → Bool) (e : (j : ℕ) → j < 53 → g j ≡ h j) where
-  cuts : (i n : ℕ) → i + n ≤ 53 → cut g i n ≡ cut h i n
+  -- a part of them
+  pub cuts : (i n : ℕ) → i + n ≤ 53 → cut g i n ≡ cut h i n
   cuts i n l = cut-ext g h i n (λ j a b. e j (omega arith))
 
   indices-ext : (a b c d : ℕ) → indicesOf g a b c d ≡ indicesOf h a b c d
@@ -44,14 +45,16 @@ module _ (g h : ℕ → Bool) (e : (j : ℕ) → j < 53 → g j ≡ h j) where
   repaired-ext : pitchRepaired (pitchBits g) ≡ pitchRepaired (pitchBits h)
   repaired-ext = ap pitchRepaired (cuts 28 7 (lit≤ tt))
 
-  words-ext : (a b c d : Decoded) → fromWords g a b c d ≡ fromWords h a b c d
+  -- from the outcomes of the words
+  pub words-ext : (a b c d : Decoded) → fromWords g a b c d ≡ fromWords h a b c d
   words-ext word.Erased b c d = refl
   words-ext (word.Read a i) word.Erased c d = refl
   words-ext (word.Read a i) (word.Read b j) word.Erased d = refl
   words-ext (word.Read a i) (word.Read b j) (word.Read c k) word.Erased = refl
   words-ext (word.Read a i) (word.Read b j) (word.Read c k) (word.Read d l) = λ t. Accepted (Unvoiced (indices-ext a b c d t)) (repaired-ext t + i + j + k + l)
 
-  class-ext : (c : PitchClass) → byClass g c ≡ byClass h c
+  -- by the class of the pitch code
+  pub class-ext : (c : PitchClass) → byClass g c ≡ byClass h c
   class-ext class.Unvoiced =
       words-ext (decode 8 (cut g 0 8)) (decode 6 (cut g 8 6)) (decode 7 (cut g 14 7)) (decode 7 (cut g 21 7))
       ∙ (λ t. fromWords h (decode 8 (cuts 0 8 (lit≤ tt) t)) (decode 6 (cuts 8 6 (lit≤ tt) t)) (decode 7 (cuts 14 7 (lit≤ tt) t))

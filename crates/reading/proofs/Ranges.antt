@@ -48,7 +48,7 @@ module _ (g : ℕ → Bool) where
       })
 
   -- an unvoiced frame from outcomes that fit its words
-  words-fit : (a b c d : Decoded) → Outcomes a b c d → T (readingFits (fromWords g a b c d))
+  pub words-fit : (a b c d : Decoded) → Outcomes a b c d → T (readingFits (fromWords g a b c d))
   words-fit word.Erased b c d o = tt
   words-fit (word.Read a i) word.Erased c d o = tt
   words-fit (word.Read a i) (word.Read b j) word.Erased d o = tt
@@ -56,7 +56,7 @@ module _ (g : ℕ → Bool) where
   words-fit (word.Read a i) (word.Read b j) (word.Read c k) (word.Read d l) o = indices-fit a b c d (o .0 .0) (o .1 .0) (o .2 .0) (o .3 .0)
 
   -- a frame of each class
-  class-fits : (c : PitchClass) → T (indexFits c) → T (readingFits (byClass g c))
+  pub class-fits : (c : PitchClass) → T (indexFits c) → T (readingFits (byClass g c))
   class-fits class.Unvoiced t =
       words-fit (decode 8 (wordA g)) (decode 6 (wordB g)) (decode 7 (wordC g)) (decode 7 (wordD g))
       (decode-bounded 8 (wordA g) (lit≤ tt) refl, decode-bounded 6 (wordB g) (lit≤ tt) refl, decode-bounded 7 (wordC g) (lit≤ tt) refl, decode-bounded 7 (wordD g) (lit≤ tt) refl)

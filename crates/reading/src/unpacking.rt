@@ -19,7 +19,7 @@ ghost use Rattle.pitch.specs.declared.PitchClass.the-variants as class;
 ghost use Rattle.reading.specs.Reading.{pitchRepaired, fromWords, byClass, read};
 
 // A voiced frame: the bits as they stand.
-fn voiced(bits: u64, pitch: u8) -> Reading
+pub(crate) fn voiced(bits: u64, pitch: u8) -> Reading
     ensures { λ r. ⌜ r ≡ byClass (carried 54 bits) (class.Voiced pitch) ⌝ }
 {
     let a = part(bits, 0, 4);
@@ -39,7 +39,7 @@ fn repaired_in(bits: u64, i: u8, j: u8, k: u8, l: u8) -> u8
 }
 
 // An unvoiced frame, from the outcomes of its four words, however they were chosen.
-fn from_words(bits: u64, a: Decoded, b: Decoded, c: Decoded, d: Decoded) -> Reading
+pub(crate) fn from_words(bits: u64, a: Decoded, b: Decoded, c: Decoded, d: Decoded) -> Reading
     requires { ⌜ Bounded 8 a × Bounded 6 b × Bounded 7 c × Bounded 7 d ⌝ }
     ensures { λ r. ⌜ r ≡ fromWords (carried 54 bits) a b c d ⌝ }
 {

@@ -24,14 +24,14 @@ use Rattle.records.specs.declared.Record.{Record}
 use Rattle.receiver.specs.declared.ReceiveAnswer.the-variants.{Refused}
 
 -- the last bit of a number is its remainder
-sync-is : (n : ℕ) → eqb (n % 2) 1 ≡ carried 54 n 53
+pub sync-is : (n : ℕ) → eqb (n % 2) 1 ≡ carried 54 n 53
 sync-is n =
     let e : n / 1 % 2 ≡ n % 2 = omega arith in
     sym (bits-at 54 53 n (lit< tt) ∙ ap (λ (x : ℕ). eqb x 1) e)
 
-module _ (r : Record) (bytes : List ℕ) where
+module _ (bytes : List ℕ) where
   -- bits are taken from a frame that is not refused, and are its logical bits
-  bits-taken : (n : ℕ) → bitsAnswer bytes ≡ taking.Bits n → (frameRefusal bytes ≡ 0) × (n ≡ value (cut (logicalBit defaultOrder bytes) 0 54))
+  pub bits-taken : (n : ℕ) → bitsAnswer bytes ≡ taking.Bits n → (frameRefusal bytes ≡ 0) × (n ≡ value (cut (logicalBit defaultOrder bytes) 0 54))
   unfolding bitsAnswer
   bits-taken n e = go (frameRefusal bytes) refl e
     where
@@ -39,6 +39,20 @@ module _ (r : Record) (bytes : List ℕ) where
       go zero f e = (f, cc)
       go (suc m) f e = let z : _≡_ {A = ℕ} 0 1 = cc in absurd (omega arith)
 
+  -- and from no other
+  pub bits-refused : (n : ℕ) → bitsAnswer bytes ≡ taking.Refused n → (m : ℕ) × (frameRefusal bytes ≡ suc m) × (n ≡ suc m)
+  unfolding bitsAnswer
+  bits-refused n e = go (frameRefusal bytes) refl e
+    where
+      go : (k : ℕ) → frameRefusal bytes ≡ k → bitsUnless k bytes ≡ taking.Refused n → (m : ℕ) × (frameRefusal bytes ≡ suc m) × (n ≡ suc m)
+      go zero f e = let z : _≡_ {A = ℕ} 0 1 = cc in absurd (omega arith)
+      go (suc m) f e = (m, f, cc)
+
+  -- the logical bits that are carried in the number taken
+  pub taken-bit : (n j : ℕ) → bitsAnswer bytes ≡ taking.Bits n → j < 54 → carried 54 n j ≡ logicalBit defaultOrder bytes j
+  taken-bit n j e h = carried-back 54 (logicalBit defaultOrder bytes) n j (bits-taken n e .1) h
+
+module _ (r : Record) (bytes : List ℕ) where
   -- what a call owes by the number of its refusal
   owes : (n : ℕ) → receiveRefusal r bytes ≡ n → receiveUnless n defaultOrder r bytes ≡ receive defaultOrder r bytes
   unfolding receive
@@ -46,22 +60,18 @@ module _ (r : Record) (bytes : List ℕ) where
 
   -- a frame that is refused
   pub frame-owes : (n : ℕ) → bitsAnswer bytes ≡ taking.Refused n → record { answer = Refused n; next = r } ≡ receive defaultOrder r bytes
-  unfolding bitsAnswer
-  frame-owes n e = go (frameRefusal bytes) refl e
-    where
-      go : (m : ℕ) → frameRefusal bytes ≡ m → bitsUnless m bytes ≡ taking.Refused n → record { answer = Refused n; next = r } ≡ receive defaultOrder r bytes
-      go zero f e = let z : _≡_ {A = ℕ} 0 1 = cc in absurd (omega arith)
-      go (suc m) f e = ap (λ (k : ℕ). record { answer = Refused k; next = r }) (cc) ∙ owes (suc m) (frame-refused r bytes m f)
+  frame-owes n e =
+      let x = bits-refused bytes n e in
+      ap (λ (k : ℕ). record { answer = Refused k; next = r }) (x .2) ∙ owes (suc (x .0)) (frame-refused r bytes (x .0) (x .1))
 
   module _ (n : ℕ) (e : bitsAnswer bytes ≡ taking.Bits n) where
     -- a record out of range
     pub record-owes : valid r ≡ false → record { answer = Refused 4; next = r } ≡ receive defaultOrder r bytes
-    record-owes v = owes 4 (record-refused r bytes (bits-taken n e .0) v)
+    record-owes v = owes 4 (record-refused r bytes (bits-taken bytes n e .0) v)
 
     -- nothing refused
     pub step-owes : valid r ≡ true → step r (eqb (n % 2) 1) (read (carried 54 n)) ≡ receive defaultOrder r bytes
     step-owes v =
-        let g : ℕ → Bool = logicalBit defaultOrder bytes in
-        let same : (j : ℕ) → j < 54 → carried 54 n j ≡ g j = λ j h. carried-back 54 g n j (bits-taken n e .1) h in
-        ap₂ (λ (s : Bool) (x : Reading). step r s x) (sync-is n ∙ same 53 (lit< tt)) (read-ext (carried 54 n) g (λ j h. same j (omega arith)))
-        ∙ owes 0 (not-refused r bytes (bits-taken n e .0) (T-true (valid r) v))
+        let same : (j : ℕ) → j < 54 → carried 54 n j ≡ logicalBit defaultOrder bytes j = λ j h. taken-bit bytes n j e h in
+        ap₂ (λ (s : Bool) (x : Reading). step r s x) (sync-is n ∙ same 53 (lit< tt)) (read-ext (carried 54 n) (logicalBit defaultOrder bytes) (λ j h. same j (omega arith)))
+        ∙ owes 0 (not-refused r bytes (bits-taken bytes n e .0) (T-true (valid r) v))

@@ -5,3 +5,6 @@ pub mod Validity
 pub mod Answers
 pub mod Clauses
 pub mod Frames
+pub mod SoftRefusals
+pub mod SoftAnswers
+pub mod Values

@@ -1,15 +1,15 @@
 -- Which calls are refused, and what the others give.
 -- Assumes nothing.
-use mathlib.Core.Path.{_≡_, refl, sym, ap, ap₂, subst}
+use mathlib.Core.Path.{_≡_, refl, sym, ap, _∙_, subst}
 use mathlib.Core.Bool.{Bool, true, false, not}
-use mathlib.Core.List.{List, [], _∷_}
+use mathlib.Core.List.{List, [], _∷_, _++_}
 use Prim.Native.Nat.{ℕ, zero, suc}
 use native.Mathlib.Omega.{arith}
 use lib.Dec.{T, eqb}
 use lib.ListN.{length}
 use borrow.Author.Tests.{eq-eqb}
 use Rattle.bits.specs.Bits.{ones}
-use Rattle.bits.specs.Refusals.{firstRefusal}
+use Rattle.bits.specs.Refusals.{Table, firstRefusal}
 use Rattle.bits.proofs.Tests.{true-T}
 use Rattle.bits.proofs.Refusals.{first-append}
 use Rattle.order.specs.Order.{logicalBit, frameTable, frameRefusal}
@@ -17,14 +17,18 @@ use Rattle.order.proofs.Refusals.{frame-taken-only}
 use Rattle.reading.specs.Reading.{read}
 use Rattle.records.specs.Records.{valid}
 use Rattle.receiver.specs.Steps.{step}
-use Rattle.receiver.specs.Receiving.{receiveRefusal, receiveUnless, receive}
+use Rattle.receiver.specs.Receiving.{recordTable, receiveRefusal, receiveUnless, receive}
 use Rattle.records.specs.declared.Record.{Record}
 
--- where the frame is taken, the record decides
-record-decides : (r : Record) (bytes : List ℕ) (b : Bool) → frameRefusal bytes ≡ 0 → valid r ≡ b → receiveRefusal r bytes ≡ firstRefusal ((not b, 4) ∷ [])
-record-decides r bytes b e v =
+-- where the frame is taken, the rest of a table decides
+pub frame-passes : (bytes : List ℕ) (rest : Table) → frameRefusal bytes ≡ 0 → firstRefusal (frameTable bytes ++ rest) ≡ firstRefusal rest
+frame-passes bytes rest e =
     let t = frame-taken-only bytes e in
-    rw (eq-eqb (length bytes) 7 (t .0)) (ap₂ (λ (l : List Bool) (b : Bool). firstRefusal ((not (eqb (ones l) 0), 3) ∷ (not b, 4) ∷ [])) (t .1) v)
+    rw (eq-eqb (length bytes) 7 (t .0)) (ap (λ (l : List Bool). firstRefusal ((not (eqb (ones l) 0), 3) ∷ rest)) (t .1))
+
+-- so the record does
+record-decides : (r : Record) (bytes : List ℕ) (b : Bool) → frameRefusal bytes ≡ 0 → valid r ≡ b → receiveRefusal r bytes ≡ firstRefusal ((not b, 4) ∷ [])
+record-decides r bytes b e v = frame-passes bytes (recordTable r) e ∙ ap (λ (t : Bool). firstRefusal ((not t, 4) ∷ [])) v
 
 -- a record out of range is refused
 pub record-refused : (r : Record) (bytes : List ℕ) → frameRefusal bytes ≡ 0 → valid r ≡ false → receiveRefusal r bytes ≡ 4
@@ -36,7 +40,7 @@ not-refused r bytes e v = record-decides r bytes true e (true-T (valid r) v)
 
 -- where the frame is refused, so is the call, with the same number
 pub frame-refused : (r : Record) (bytes : List ℕ) (n : ℕ) → frameRefusal bytes ≡ suc n → receiveRefusal r bytes ≡ suc n
-frame-refused r bytes n e = first-append (frameTable bytes) ((not (valid r), 4) ∷ []) n e
+frame-refused r bytes n e = first-append (frameTable bytes) (recordTable r) n e
 
 -- no others are let through
 pub not-refused-only : (r : Record) (bytes : List ℕ) → receiveRefusal r bytes ≡ 0 → (frameRefusal bytes ≡ 0) × T (valid r)

@@ -1,4 +1,5 @@
 pub mod Steps
 pub mod Receiving
+pub mod SoftReceiving
 pub mod Frames
 pub mod Sync

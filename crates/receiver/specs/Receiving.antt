@@ -12,9 +12,13 @@ use Rattle.receiver.specs.declared.Received.{Received}
 use Rattle.records.specs.Records.{valid}
 use Rattle.receiver.specs.Steps.{step}
 
--- what refuses a call: what refuses the frame; a record with a field out of its range
+-- what refuses a record: a field out of its range
+abbrev pub recordTable : Record → Table
+recordTable r = (not (valid r), 4) ∷ []
+
+-- what refuses a call: what refuses the frame; what refuses the record
 abbrev pub receiveTable : Record → List ℕ → Table
-receiveTable r bytes = frameTable bytes ++ (not (valid r), 4) ∷ []
+receiveTable r bytes = frameTable bytes ++ recordTable r
 
 -- its refusal, 0 is none
 abbrev pub receiveRefusal : Record → List ℕ → ℕ

@@ -1,16 +1,20 @@
 // The receiver: the calls that take a frame, and what a frame yields and leaves.
 //
-//   receiving  the calls
-//   steps      what an accepted frame and a repeat yield, and the record they leave
-//   levels     the levels of codes in range
+//   receiving       the calls
+//   soft_receiving  the calls that are given a confidence for each place
+//   steps           what an accepted frame and a repeat yield, and the record they leave
+//   levels          the levels of codes in range
 mod levels;
 mod receiving;
+mod soft_receiving;
 mod steps;
 
 pub use receiving::receive;
 pub use receiving::receive_in_place;
 use records::Record;
 use sets::ParameterSet;
+pub use soft_receiving::receive_soft;
+pub use soft_receiving::receive_soft_in_place;
 
 // The kind of a result.
 pub enum Kind {

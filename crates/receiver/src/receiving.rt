@@ -13,7 +13,7 @@ ghost use Rattle.receiver.specs.Receiving.{receive};
 ghost use Rattle.receiver.specs.declared.ReceiveAnswer.the-variants.{Refused};
 
 // A refusal: its number, and the record as it is.
-fn refuse(rec: Record, n: u8) -> Received
+pub(crate) fn refuse(rec: Record, n: u8) -> Received
     ensures { λ r. ⌜ r ≡ record { answer = Refused n; next = rec } ⌝ }
 {
     Received {

@@ -7,3 +7,8 @@ pub mod Entries
 pub mod Keys
 pub mod Counts
 pub mod Outcomes
+pub mod Bounds
+pub mod Ties
+pub mod Sent
+pub mod Equal
+pub mod Claims

@@ -25,6 +25,7 @@ use Rattle.soft.proofs.Least.{least-lt, least-ext, least-past}
 use Rattle.soft.proofs.Keys.{keyIn, cost-decides}
 use Rattle.soft.proofs.Splitting.{differing-length}
 use Rattle.soft.proofs.Entries.{codeWords-le}
+use Rattle.soft.proofs.Bounds.{chosen-lt}
 
 -- past k numbers in front, the rest of sixteen
 past-at : (front : List ℕ) (k u : ℕ) → length front ≡ k → k ≤ u → u < 16 → getD (front ++ drop k (replicate 16 65535)) u 0 ≡ 65535
@@ -75,10 +76,6 @@ module _ (n : ℕ) (l : 6 ≤ n) (m : n ≤ 8) (q : List ℕ) (w : List Bool) (h
       ap (leastBy (keyIn prices)) (sym all) ∙ least-past (keyIn prices) k (16 - k) dear
       ∙ least-ext (keyIn prices) (key n q w) k (λ u h. ap (λ (x : ℕ). x ∷ u ∷ []) (cost-at u h))
 
-  chosen-lt : chosen n q w < codeWords n
-  unfolding chosen
-  chosen-lt = least-lt (key n q w) (codeWords n) (pow-pos (dataBits n))
-
   -- as many have a cost, where all sixteen are code words
   count-is : codeWords n ≡ 16 → (x : ℕ) → asCheap prices x ≡ ones (cut (λ u. eqb (cost n q w u) x) 0 (codeWords n))
   count-is e x =
@@ -96,18 +93,18 @@ module _ (n : ℕ) (l : 6 ≤ n) (m : n ≤ 8) (q : List ℕ) (w : List Bool) (h
   -- the outcome by the number of the least key
   module _ (k : ℕ) (e : k ≡ keyNumber prices (leastIn prices)) where
     number-is : k ≡ cost n q w (chosen n q w) * 16 + chosen n q w
-    number-is = e ∙ ap (keyNumber prices) least-is ∙ ap (λ (x : ℕ). x * 16 + chosen n q w) (cost-at (chosen n q w) chosen-lt)
+    number-is = e ∙ ap (keyNumber prices) least-is ∙ ap (λ (x : ℕ). x * 16 + chosen n q w) (cost-at (chosen n q w) (chosen-lt n q w))
 
     data-is : k % 16 ≡ chosen n q w
-    data-is = omega (arith, number-is, chosen-lt, codeWords-le n l m)
+    data-is = omega (arith, number-is, chosen-lt n q w, codeWords-le n l m)
 
     cost-is : k / 16 ≡ cost n q w (chosen n q w)
-    cost-is = omega (arith, number-is, chosen-lt, codeWords-le n l m)
+    cost-is = omega (arith, number-is, chosen-lt n q w, codeWords-le n l m)
 
     pub outcome-is : (t : Bool) → t ≡ (eqb n 8 && leb 2 (asCheap prices (k / 16))) → cond t Erased (Read (k % 16) (getD prices (k % 16) 0 % 16)) ≡ choose n q w
     unfolding choose
     outcome-is t h =
         let places : getD prices (k % 16) 0 % 16 ≡ ones (differing n w (chosen n q w)) =
-        ap (λ (u : ℕ). getD prices u 0 % 16) data-is ∙ differing-at (chosen n q w) chosen-lt in
+        ap (λ (u : ℕ). getD prices u 0 % 16) data-is ∙ differing-at (chosen n q w) (chosen-lt n q w) in
         let tied = h ∙ ap (λ (x : ℕ). eqb n 8 && leb 2 (asCheap prices x)) cost-is ∙ tie-is (cost n q w (chosen n q w)) in
         λ i. cond (tied i) Erased (Read (data-is i) (places i))

@@ -1,3 +1,4 @@
 pub mod Least
 pub mod Choice
 pub mod Prices
+pub mod Claims

@@ -51,6 +51,7 @@ use Rattle.receiver.specs.declared.Received.{Received}
 use Rattle.records.proofs.Record as rec
 use Rattle.records.proofs.Record.Laws as rec-laws
 use Rattle.receiver.proofs.Clauses.{both-shown}
+use Rattle.receiver.proofs.Values.{rec-vals, got-vals, is-answer, is-next, answer-val}
 use Rattle.receiver.proofs.Received as got
 use Rattle.receiver.proofs.Received.Laws as got-laws
 use Rattle.receiver.proofs.ReceiveAnswer as ans
@@ -67,14 +68,6 @@ use Rattle.receiver.proofs.receiving.receive_in_place.Code as code
 -- how the two parameters stand at the exit: the reference to the record, and the slice
 abbrev stayed : Stays (in-place.ended .signature .params) (in-place.ended .kept)
 stayed = (stay-ref (0 ∷ []) tt (plain (λ _. rec.the-row)), (stay-none-slice (1 ∷ []) tt (plain (λ _. u8)) yes, tt))
-
--- the machine values of a record
-abbrev rec-vals : Record → List Val
-rec-vals = structs.vals rec.the-type rec-laws.the-laws
-
--- and of what `receive` returns
-abbrev got-vals : Received → List Val
-got-vals = structs.vals got.the-type got-laws.the-laws
 
 -- the contract of `receive`
 abbrev Receive : {M : Type 1} (𝓤 : URA M) (H : Heap 𝓤) (A : Atoms 𝓤) (at-mem : Memory → SProp 𝓤) (run : Routine → Fun 𝓤) → Contract 𝓤
@@ -122,18 +115,6 @@ module _ {M : Type 1} (𝓤 : URA M) (H : Heap 𝓤) (A : Atoms 𝓤) (W : Given
   -- what it ensures is known of its result
   said : (r : Received) → ent 𝓤 (ensured 𝓤 H A by-value.ended (by-value.clauses 𝓤 H A at-mem run) (κ′, tt) (h, (s, tt)) tt r) (fact 𝓤 (r ≡ found))
   said r = exE 𝓤 _ (λ ws. snd∗ 𝓤 (sem 𝓤 H A (lasts by-value.ended (κ′, tt) (h, (s, tt)) ws)) (fact 𝓤 (r ≡ found)))
-
-  -- the answer in a `Received` is well made
-  is-answer : (r : Received) → Is got.the-row r (got-vals r) → Is ans.the-row (r .answer) (enums.vals ans.the-type ans-laws.the-laws (r .answer))
-  is-answer r is = structs.owed got.the-type got-laws.the-laws r _ is .0
-
-  -- so is the record in it
-  is-next : (r : Received) → Is got.the-row r (got-vals r) → Is rec.the-row (r .next) (rec-vals (r .next))
-  is-next r is = structs.owed got.the-type got-laws.the-laws r _ is .1 .0
-
-  -- the machine value of the answer
-  abbrev answer-val : Received → Val
-  answer-val r = enums.val ans.the-type ans-laws.the-laws (r .answer)
 
   -- the exit: the borrow closed at the record that came back, and the answer, are what is owed
   exits : (r : Received) → r ≡ found → Is got.the-row r (got-vals r)

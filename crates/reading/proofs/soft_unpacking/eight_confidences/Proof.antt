@@ -1,0 +1,84 @@
+-- `reading::soft_unpacking::eight_confidences` meets its contract: after i turns the first i stand in front. Assumes nothing.
+use mathlib.Core.Path.{_≡_, refl, sym, ap, ap₂, _∙_}
+use mathlib.Core.List.{List, _++_}
+use Prim.Native.Nat.{ℕ, _+_, _*_, _-_, _%_, _≤_, _<_}
+use native.Mathlib.Omega.{arith}
+use lib.ListN.{length, getD, take, drop, set, replicate}
+use Rattle.bits.specs.Bits.{cut}
+use Rattle.bits.proofs.Cut.{cut-at}
+use Rattle.bits.proofs.Front.{front-more, front-all}
+use Rattle.order.specs.Order.{defaultOrder}
+use Rattle.order.proofs.DefaultOrder.{default-place}
+use Rattle.reading.specs.SoftReading.{confidenceOf}
+use Rattle.reading.proofs.soft_unpacking.eight_confidences.Statement.{statement}
+use Rattle.reading.proofs.soft_unpacking.eight_confidences.Tie as tie
+
+-- the eight, and that each is found by its product
+abbrev target : List ℕ → ℕ → List ℕ
+target confidences first = cut (confidenceOf defaultOrder confidences) first 8
+
+target-at : (confidences : List ℕ) (first i : ℕ) → first ≤ 46 → i < 8 → getD confidences (7 * (first + i) % 54) 0 ≡ getD (target confidences first) i 0
+target-at confidences first i h k =
+    ap (λ (t : ℕ). getD confidences t 0) (sym (default-place (first + i) (omega arith))) ∙ sym (cut-at 0 (confidenceOf defaultOrder confidences) first 8 i k)
+
+abbrev Inv-loop : tie.InvT-loop
+Inv-loop confidences first eight₀ i₀ eight i =
+    (i ≤ 8) × (first ≤ 46) × (length confidences ≡ 54) × (eight ≡ take i (target confidences first) ++ drop i (replicate 8 0))
+
+abbrev μ-loop : tie.MeasureT-loop
+μ-loop confidences first eight₀ i₀ eight i = 8 - i
+
+loop-holds : tie.Need-loop-holds Inv-loop μ-loop
+loop-holds c = (omega arith, c .pre .1, c .pre .0, refl)
+
+add-eight : tie.Need-add-eight Inv-loop μ-loop
+add-eight c = omega arith
+
+mul-eight : tie.Need-mul-eight Inv-loop μ-loop
+mul-eight c = omega arith
+
+shared-slice-read-eight : tie.Need-shared-slice-read-eight Inv-loop μ-loop
+shared-slice-read-eight c = omega arith
+
+array-write-eight : tie.Need-array-write-eight Inv-loop μ-loop
+array-write-eight c = omega arith
+
+add-i : tie.Need-add-i Inv-loop μ-loop
+add-i c = omega arith
+
+loop-less : tie.Need-loop-less Inv-loop μ-loop
+loop-less c = omega arith
+
+loop-again : tie.Need-loop-again Inv-loop μ-loop
+loop-again c =
+    let L = c .before .before .loop in
+    let a = c .before .before .before .args in
+    let s = target (a .confidences .now) (a .first) in (
+      omega arith,
+      L .inv .1,
+      L .inv .2,
+      ap₂ (λ (d : List ℕ) (x : ℕ). set d (L .i) x) (L .inv .3) (target-at (a .confidences .now) (a .first) (L .i) (L .inv .1) (omega arith))
+          ∙ front-more s (replicate 8 0) (L .i) 0 (omega arith) (omega arith),
+    )
+
+returns : tie.Need-returns Inv-loop μ-loop
+returns c =
+    let L = c .before .loop in
+    let a = c .before .before .args in
+    front-all (target (a .confidences .now) (a .first)) (replicate 8 0) (L .eight) (L .i) 8 (L .inv .3) (omega arith) (omega arith)
+
+pub eight-confidences-spec : {M : Type 1} → statement M
+eight-confidences-spec =
+    tie.close
+    (tie.spec
+    Inv-loop
+    μ-loop
+    loop-holds
+    add-eight
+    mul-eight
+    shared-slice-read-eight
+    array-write-eight
+    add-i
+    loop-less
+    loop-again
+    returns)
