@@ -61,6 +61,15 @@ static const uint8_t PARITY[16] = {
     0x0, 0xE, 0x7, 0x9, 0xB, 0x5, 0xC, 0x2, 0xD, 0x3, 0xA, 0x4, 0x6, 0x8, 0x1, 0xF,
 };
 
+/* Parity of the data of a word of `length` bits. The longest has four parity bits, the others three; the fourth data
+   bit of the shortest is the spare 0. */
+static inline unsigned parity_of(unsigned data, unsigned length)
+{
+    if (length == 8)
+        return PARITY[data];
+    return PARITY[length == 6 ? data << 1 : data] >> 1;
+}
+
 /* What a pitch code stands for if not for an index. */
 enum { PITCH_UNVOICED = 128, PITCH_ERASED = 129 };
 

@@ -28,10 +28,10 @@ static inline void carried_bits(const struct parameter_set *set, const unsigned 
         carried[2] = set->fourier >> 2 & 7;
         carried[3] = (set->fourier & 3u) << 1 | set->aperiodic;
     } else {
-        carried[0] = PARITY[data[0]];
-        carried[1] = PARITY[data[1] << 1] >> 1;
-        carried[2] = PARITY[data[2]] >> 1;
-        carried[3] = PARITY[data[3]] >> 1;
+        carried[0] = parity_of(data[0], 8);
+        carried[1] = parity_of(data[1], 6);
+        carried[2] = parity_of(data[2], 7);
+        carried[3] = parity_of(data[3], 7);
     }
 }
 

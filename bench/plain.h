@@ -1,17 +1,18 @@
-/* What plain and tuned C do differently, the plain way: taking and placing bits, pitch code, repair, kinds, two
-   digits. */
+/* What plain and tuned C do differently, the plain way: taking and placing bits, pitch code, repair, choice by cost,
+   kinds, two digits. */
 #ifndef PLAIN_H
 #define PLAIN_H
 
+#include <limits.h>
 #include <string.h>
 
 #include "melp.h"
 
 /* The place of logical bit j: from the table, or where PRODUCT is set by a product and a remainder. */
-static inline unsigned place_of(int j)
+static inline unsigned place_of(unsigned j)
 {
 #ifdef PRODUCT
-    return 7u * (unsigned)j % FRAME_BITS;
+    return 7 * j % FRAME_BITS;
 #else
     return PLACE[j];
 #endif
@@ -21,7 +22,7 @@ static inline unsigned place_of(int j)
 static inline uint64_t logical_bits(const uint8_t *frame)
 {
     uint64_t bits = 0;
-    for (int j = 0; j < FRAME_BITS; j++) {
+    for (unsigned j = 0; j < FRAME_BITS; j++) {
         unsigned place = place_of(j);
         bits = bits << 1 | (frame[place / 8] >> (7 - place % 8) & 1);
     }
@@ -38,7 +39,7 @@ static inline void flip(uint8_t *frame, unsigned place)
 static inline void place_bits(uint64_t bits, uint8_t *frame)
 {
     memset(frame, 0, FRAME_BYTES);
-    for (int j = 0; j < FRAME_BITS; j++)
+    for (unsigned j = 0; j < FRAME_BITS; j++)
         if (bits >> (FRAME_BITS - 1 - j) & 1)
             flip(frame, place_of(j));
 }
@@ -64,13 +65,12 @@ static inline uint8_t read_pitch(unsigned code)
     return ones == 2 ? PITCH_ERASED : PITCH_INDEX[code];
 }
 
-/* Syndrome of a word of `length` bits. The longest has four parity bits, the others three; the fourth
-   data bit of the shortest is the spare 0. */
+/* Syndrome of a word of `length` bits. */
 static inline unsigned syndrome(unsigned word, unsigned length)
 {
     if (length == 8)
-        return (word & 15) ^ PARITY[word >> 4];
-    return (word & 7) ^ PARITY[length == 6 ? word >> 3 << 1 : word >> 3] >> 1;
+        return (word & 15) ^ parity_of(word >> 4, length);
+    return (word & 7) ^ parity_of(word >> 3, length);
 }
 
 /* Marks in the table below: no bit to flip, and a frame erased. */
@@ -104,6 +104,46 @@ static inline bool repair_words(uint64_t bits, unsigned data[4], unsigned *repai
            repair(field(bits, WORD_B, 6), 6, &data[1], repaired) &&
            repair(field(bits, WORD_C, 7), 7, &data[2], repaired) &&
            repair(field(bits, WORD_D, 7), 7, &data[3], repaired);
+}
+
+/* The code word of `length` bits with these data. */
+static inline unsigned code_word(unsigned data, unsigned length)
+{
+    return data << (length == 8 ? 4 : 3) | parity_of(data, length);
+}
+
+/* What a code word costs that differs so from the word at logical bit `first`: the sum of the confidences there. */
+static inline unsigned cost(unsigned differing, unsigned first, unsigned length,
+                            const uint8_t *confidences)
+{
+    unsigned sum = 0;
+    for (unsigned i = 0; i < length; i++)
+        if (differing >> (length - 1 - i) & 1)
+            sum += confidences[place_of(first + i)];
+    return sum;
+}
+
+/* The data of the cheapest code word for the word at logical bit `first`, the smallest of several; whether it is the
+   only one. Adds the places where the word differs from it to `repaired`. */
+static inline bool choose(uint64_t bits, unsigned first, unsigned length,
+                          const uint8_t *confidences, unsigned *data, unsigned *repaired)
+{
+    unsigned word = field(bits, first, length), least = UINT_MAX, wrong = 0;
+    bool only = true;
+    for (unsigned u = 0; u < (length == 6 ? 8 : 16); u++) {
+        unsigned differing = word ^ code_word(u, length);
+        unsigned sum = cost(differing, first, length, confidences);
+        if (sum < least) {
+            least = sum;
+            wrong = differing;
+            *data = u;
+            only = true;
+        } else if (sum == least) {
+            only = false;
+        }
+    }
+    *repaired += (unsigned)__builtin_popcount(wrong);
+    return only;
 }
 
 /* The kinds of the latest 16 frames, oldest first. */

@@ -1,5 +1,5 @@
-/* Receiving a frame: repair, erasure and repeat, gain levels, mute. Unpacking, the pitch
-   code, repair of the words and the latest kinds come from plain.h, or where TUNED is set from tuned.h. */
+/* Receiving a frame: repair, erasure and repeat, gain levels, mute; soft.h receives with confidences. Unpacking, the
+   pitch code, repair of the words and the latest kinds come from plain.h, or where TUNED is set from tuned.h. */
 #ifndef RECEIVE_H
 #define RECEIVE_H
 
@@ -12,7 +12,13 @@
 enum kind { UNVOICED, VOICED, REPEAT };
 
 /* Numbers of the refusals; 0 is none. */
-enum refusal { NOT_REFUSED = 0, REFUSED_LENGTH = 2, REFUSED_PADDING = 3, REFUSED_RECORD = 4 };
+enum refusal {
+    NOT_REFUSED = 0,
+    REFUSED_LENGTH = 2,
+    REFUSED_PADDING = 3,
+    REFUSED_RECORD = 4,
+    REFUSED_CONFIDENCES = 9
+};
 
 /* What a receiver keeps. */
 struct record {
@@ -57,11 +63,24 @@ static inline void read_voiced(uint64_t bits, uint8_t pitch, struct parameter_se
     set->aperiodic = (uint8_t)field(bits, WORD_D + 6, 1);
 }
 
-/* An unvoiced frame: false where it is erased; repaired words are added to `repaired`. */
-static inline bool read_unvoiced(uint64_t bits, struct parameter_set *set, unsigned *repaired)
+/* A way to decide words A to D: their data, or false where the frame is erased. Adds to `repaired`. */
+typedef bool decide_words(uint64_t bits, const uint8_t *confidences, unsigned data[4],
+                          unsigned *repaired);
+
+/* The way without confidences. */
+static inline bool decide_by_syndrome(uint64_t bits, const uint8_t *confidences, unsigned data[4],
+                                      unsigned *repaired)
+{
+    (void)confidences;
+    return repair_words(bits, data, repaired);
+}
+
+/* An unvoiced frame: false where it is erased. Adds to `repaired`. */
+static inline bool read_unvoiced(uint64_t bits, decide_words *decide, const uint8_t *confidences,
+                                 struct parameter_set *set, unsigned *repaired)
 {
     unsigned data[4];
-    if (!repair_words(bits, data, repaired))
+    if (!decide(bits, confidences, data, repaired))
         return false;
     read_indices(bits, data, set);
     set->voiced = false;
@@ -69,7 +88,8 @@ static inline bool read_unvoiced(uint64_t bits, struct parameter_set *set, unsig
 }
 
 /* Reads a frame's bits into the result's kind, set and repaired count. */
-static inline void read_frame(uint64_t bits, struct result *result)
+static inline void read_frame(uint64_t bits, decide_words *decide, const uint8_t *confidences,
+                              struct result *result)
 {
     unsigned code = field(bits, PITCH_CODE, 7), repaired = code != 0;
     uint8_t pitch = read_pitch(code);
@@ -78,7 +98,8 @@ static inline void read_frame(uint64_t bits, struct result *result)
     if (pitch < PITCH_UNVOICED) {
         read_voiced(bits, pitch, &result->set);
         result->kind = VOICED;
-    } else if (pitch == PITCH_UNVOICED && read_unvoiced(bits, &result->set, &repaired)) {
+    } else if (pitch == PITCH_UNVOICED &&
+               read_unvoiced(bits, decide, confidences, &result->set, &repaired)) {
         result->repaired = (uint8_t)repaired;
         result->kind = UNVOICED;
     }
@@ -116,34 +137,43 @@ static inline void repeat(const struct record *record, struct result *result)
     result->first_level = result->second_level = level_of(record->g2);
 }
 
-/* The first refusal that applies. */
-static inline enum refusal check(const struct record *record, const uint8_t *frame, size_t length)
+/* The first refusal that applies; `count` is the number of confidences, 54 where none are asked for. */
+static inline enum refusal check(const struct record *record, const uint8_t *frame, size_t length,
+                                 size_t count)
 {
     if (length != FRAME_BYTES)
         return REFUSED_LENGTH;
     if (frame[FRAME_BYTES - 1] & 3)
         return REFUSED_PADDING;
+    if (count != FRAME_BITS)
+        return REFUSED_CONFIDENCES;
     if (!set_in_range(&record->last) || record->g2 > 31)
         return REFUSED_RECORD;
     return NOT_REFUSED;
 }
 
-/* Takes a frame: the result and the record after it, or a refusal that changes neither. */
-static inline enum refusal receive(struct record *record, const uint8_t *frame, size_t length,
-                                   struct result *result)
+/* The result of a frame that is not refused, and the record after it. */
+static inline void take_frame(struct record *record, const uint8_t *frame, decide_words *decide,
+                              const uint8_t *confidences, struct result *result)
 {
-    enum refusal refusal = check(record, frame, length);
-    if (refusal != NOT_REFUSED)
-        return refusal;
     uint64_t bits = logical_bits(frame);
-    read_frame(bits, result);
+    read_frame(bits, decide, confidences, result);
     if (result->kind == REPEAT)
         repeat(record, result);
     else
         accept(record, result);
     result->mute = push_kind(&record->kinds, result->kind == REPEAT);
     result->sync = field(bits, SYNC, 1);
-    return NOT_REFUSED;
+}
+
+/* Takes a frame: the result and the record after it, or a refusal that changes neither. */
+static inline enum refusal receive(struct record *record, const uint8_t *frame, size_t length,
+                                   struct result *result)
+{
+    enum refusal refusal = check(record, frame, length, FRAME_BITS);
+    if (refusal == NOT_REFUSED)
+        take_frame(record, frame, decide_by_syndrome, NULL, result);
+    return refusal;
 }
 
 #endif

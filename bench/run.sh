@@ -1,14 +1,16 @@
 #!/usr/bin/env bash
 # run.sh [HEAR]: instructions a frame of the proved programs and of the same programs in C, on the same input: hear; receive by
-# itself (bench_receive); pack, with the set read from its bytes (send); session files of 1,000 and of 2,000 frames (to_session and
-# from_session). "less it" is without those for an empty input, from_session's the file of no frames, and the ratio is that of the
-# proved program to each. Status 1 if they write different bytes, if hear or receive takes more than in plain C, or if pack takes
-# more than 0.45 of it. HEAR stands in for target/bin/hear. Needs clang, valgrind and the proved programs (rt check hear
-# bench_receive send to_session from_session).
+# itself (bench_receive); receive with confidences (bench_soft), on the first 1,074 of the same frames; pack, with the set read
+# from its bytes (send); session files of 1,000 and of 2,000 frames (to_session and from_session). "less it" is without those for
+# an empty input, from_session's the file of no frames, and the ratio is that of the proved program to each. Status 1 if they
+# write different bytes, if hear or receive, with confidences or without, takes more than in plain C, or if pack takes more than
+# 0.45 of it. HEAR stands in for target/bin/hear. Needs clang, valgrind and the proved programs (rt check hear bench_receive
+# bench_soft send to_session from_session).
 set -euo pipefail
 top=$(cd "$(dirname "$0")/.." && pwd)
 hear=$(realpath "${1:-$top/target/bin/hear}")
 frames=9362
+soft=1074
 sets=5957
 seed=1
 work=$(mktemp -d)
@@ -79,6 +81,7 @@ build frames frames.c
 build send send.c
 build to_session to_session.c
 "$work/frames" $frames $seed >"$work/input"
+"$work/frames" $soft $seed soft >"$work/soft"
 "$work/frames" $sets $seed sets >"$work/sets"
 "$work/send" <"$work/sets" >"$work/calls"
 "$work/to_session" </dev/null >"$work/no_frames"
@@ -88,6 +91,8 @@ measure hear "$hear" hear.c "$work/input" $frames 'plain C' 'tuned C' 'tuned C, 
 within hear 100
 measure receive "$top/target/bin/bench_receive" receive.c "$work/input" $frames 'plain C' 'tuned C' 'tuned C, by moves'
 within receive 100
+measure soft "$top/target/bin/bench_soft" soft.c "$work/soft" $soft 'plain C' 'tuned C'
+within soft 100
 measure pack "$top/target/bin/send" send.c "$work/sets" $sets 'plain C' 'plain C, product' 'tuned C'
 within pack 45
 session 1000

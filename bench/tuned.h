@@ -3,6 +3,7 @@
 #ifndef TUNED_H
 #define TUNED_H
 
+#include <limits.h>
 #include <string.h>
 
 #include "melp.h"
@@ -128,6 +129,60 @@ static inline bool repair_words(uint64_t bits, unsigned data[4], unsigned *repai
     data[2] = c ^ FLIP[in_c];
     data[3] = d ^ FLIP[in_d];
     *repaired += (in_a != 0) + (in_b != 0) + (in_c != 0) + (in_d != 0);
+    return true;
+}
+
+/* How many confidences of the `count` logical bits from `first` on are 0. */
+static inline unsigned count_zeros(const uint8_t *confidences, unsigned first, unsigned count)
+{
+    unsigned zeros = 0;
+    for (unsigned i = 0; i < count; i++)
+        zeros += confidences[PLACE[first + i]] == 0;
+    return zeros;
+}
+
+/* What each choice of the `count` logical bits from `first` on costs if it is flipped; the last is least significant. */
+static inline void add_costs(const uint8_t *confidences, unsigned first, unsigned count,
+                             unsigned costs[16])
+{
+    costs[0] = 0;
+    for (unsigned i = 0; i < count; i++)
+        for (unsigned rest = 0; rest < 1u << i; rest++)
+            costs[1u << i | rest] = costs[rest] + confidences[PLACE[first + count - 1 - i]];
+}
+
+/* The choice by flips: any in the data, and in the parity what those and the syndrome ask for. A key is a cost with the
+   data below it, so that the least has the smallest data; with the data complemented it has the largest, and if that is
+   the same the code word is the only one. */
+static inline bool choose_flips(const uint8_t *confidences, unsigned first, unsigned length,
+                                unsigned came, unsigned in_word, unsigned *data, unsigned *repaired)
+{
+    unsigned count = length == 6 ? 3 : 4, in_data[16], in_parity[16];
+    add_costs(confidences, first, count, in_data);
+    add_costs(confidences, first + count, length - count, in_parity);
+    unsigned smallest = UINT_MAX, largest = UINT_MAX;
+    for (unsigned flips = 0; flips < 1u << count; flips++) {
+        unsigned cost = in_data[flips] + in_parity[parity_of(flips, length) ^ in_word];
+        unsigned key = cost << 4 | (came ^ flips);
+        smallest = key < smallest ? key : smallest;
+        largest = (key ^ 15) < largest ? key ^ 15 : largest;
+    }
+    *data = smallest & 15;
+    unsigned flips = came ^ *data;
+    *repaired += (unsigned)__builtin_popcount(flips << 4 | (parity_of(flips, length) ^ in_word));
+    return (smallest ^ largest) == 15;
+}
+
+/* A word that came as a code word costs nothing. Others differ from it in three places or more, so with at most two
+   confidences of 0 it is the only one that does. */
+static inline bool choose(uint64_t bits, unsigned first, unsigned length,
+                          const uint8_t *confidences, unsigned *data, unsigned *repaired)
+{
+    unsigned count = length == 6 ? 3 : 4, came = field(bits, first, count);
+    unsigned in_word = field(bits, first + count, length - count) ^ parity_of(came, length);
+    if (in_word != 0 || count_zeros(confidences, first, length) > 2)
+        return choose_flips(confidences, first, length, came, in_word, data, repaired);
+    *data = came;
     return true;
 }
 

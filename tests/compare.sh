@@ -1,10 +1,11 @@
 #!/usr/bin/env bash
 # The proved programs against the independent implementation, on inputs that follow from SEED (1 if not given):
 #   compare.sh vectors VECTORS [SEED]   so many calls of the library
+#   compare.sh soft VECTORS [SEED]      so many of its calls with confidences
 #   compare.sh spectrum INPUTS [SEED]   at least so many inputs of the program spectrum
 #   compare.sh hear FRAMES [SEED]       at least so many frames of the program hear
 #   compare.sh session FILES [SEED]     at least so many inputs of the programs from_session and to_session
-#   compare.sh                          a short run of all four
+#   compare.sh                          a short run of all five
 # Ends with status 1 at the first difference. Needs rustc, and the proved programs in target/bin (rt check).
 set -euo pipefail
 top=$(cd "$(dirname "$0")/.." && pwd)
@@ -43,7 +44,7 @@ same() {
   return 1
 }
 
-# ---- vectors ----
+# ---- vectors and soft ----
 
 # says FILE ANSWER: whether this is the proved program's answer to the vectors of a file; said is what it says.
 says() {
@@ -63,30 +64,50 @@ find_spoilt() {
   says lot "vectors=1000 differences=1000 left=0" || fail "vectors: seed $1, 1000 spoilt vectors, answer: \"$said\""
 }
 
-# The first vector of the lot that the proved program does not confirm, in hexadecimal.
-wrong_vector() {
-  local number
-  for ((number = 0; number < lot; number++)); do
-    dd if="$work/lot" of="$work/one" bs=256 skip="$number" count=1 status=none
-    says one "vectors=1 differences=0 left=0" || break
-  done
-  echo "vector $number:" && od -An -tx1 -v "$work/one"
+# part_of_lot FIRST COUNT: so many vectors of the lot, from one on, into a file.
+part_of_lot() {
+  dd if="$work/lot" of="$work/part" bs=256 skip="$1" count="$2" status=none
 }
 
-compare_vectors() {
-  local count=0 seed=$2 lot said
+# The first vector of the lot that the proved program does not confirm, found by halves, in hexadecimal.
+wrong_vector() {
+  local first=0 left=$lot half
+  while ((left > 1)); do
+    half=$((left / 2))
+    part_of_lot "$first" "$half"
+    if says part "vectors=$half differences=0 left=0"; then
+      first=$((first + half)) left=$((left - half))
+    else
+      left=$half
+    fi
+  done
+  part_of_lot "$first" 1
+  echo "vector $first:" && od -An -tx1 -v "$work/part"
+}
+
+# compare_lots NAME MOST VECTORS SEED [WORD]: so many vectors, at most MOST of a seed; WORD says which.
+compare_lots() {
+  local count=0 most=$2 seed=$4 word=("${@:5}") lot said
   prepare vectors
   find_stored
   find_spoilt "$seed"
-  while ((count < $1)); do
-    lot=$(($1 - count < 1000 ? $1 - count : 1000))
-    "$work/vectors" "$lot" "$seed" >"$work/lot"
+  while ((count < $3)); do
+    lot=$(($3 - count < most ? $3 - count : most))
+    "$work/vectors" "$lot" "$seed" "${word[@]}" >"$work/lot"
     says lot "vectors=$lot differences=0 left=0" ||
-      fail "vectors: seed $seed, $lot vectors, answer: \"$said\"" "$(wrong_vector)"
+      fail "$1: seed $seed, $lot vectors, answer: \"$said\"" "$(wrong_vector)"
     count=$((count + lot)) seed=$((seed + 1))
     progress "$count vectors"
   done
-  echo "vectors: $count vectors, no difference"
+  echo "$1: $count vectors, no difference"
+}
+
+compare_vectors() {
+  compare_lots vectors 1000 "$@"
+}
+
+compare_soft() {
+  compare_lots soft 20000 "$@" soft
 }
 
 # ---- spectrum ----
@@ -233,12 +254,14 @@ compare_session() {
 number='^[1-9][0-9]{0,8}$'
 if (($# == 0)); then
   compare_vectors 10000 1
+  compare_soft 20000 1
   compare_spectrum 1500 1
   compare_hear 100000 1
   compare_session 2000 1
-elif [[ $1 =~ ^(vectors|spectrum|hear|session)$ && ${2-} =~ $number && ${3-1} =~ $number && $# -le 3 ]]; then
+elif [[ $1 =~ ^(vectors|soft|spectrum|hear|session)$ && ${2-} =~ $number && ${3-1} =~ $number && $# -le 3 ]]; then
   "compare_$1" "$2" "${3-1}"
 else
-  echo "usage: compare.sh [vectors VECTORS [SEED] | spectrum INPUTS [SEED] | hear FRAMES [SEED] | session FILES [SEED]]"
+  echo "usage: compare.sh [vectors VECTORS [SEED] | soft VECTORS [SEED] | spectrum INPUTS [SEED] | hear FRAMES [SEED] |" \
+    "session FILES [SEED]]"
   exit 2
 fi

@@ -1,7 +1,8 @@
-//! Document 01's section "Examples", tried on the independent implementation, and one of our own for T-02; the eighth is in
-//! `spectrum.rs`.
+//! Document 01's section "Examples", tried on the independent implementation, and our own for T-02 and T-05; the eighth is
+//! in `spectrum.rs`.
 
 use crate::melp::{self, FrameResult, Kind, PitchClass, Refusal, Set, WordReading};
+use crate::soft;
 
 /// The frame of example 6 as the document prints it.
 const EXAMPLE_FRAME: [u8; 7] = [0x80, 0x56, 0x0D, 0x40, 0x15, 0x00, 0x10];
@@ -119,6 +120,38 @@ fn spare_syndrome() -> bool {
         && receive(&[17]) == Ok((Kind::Unvoiced, 90, 1))
 }
 
+/// Words chosen by confidences (document 02, T-05). A of 1011 with u0 and u1 flipped is a choice among u0 and u1, u2 and p3,
+/// u3 and p0, p1 and p2. B of 010 with its parity flipped becomes 000, 011 or 110 at equal confidences, so 000.
+fn chosen_words() -> bool {
+    let a = |confidences: [u8; 8]| soft::choose_word(&[0, 1, 1, 1, 0, 1, 0, 0], &confidences);
+    let b = |confidences: [u8; 6]| soft::choose_word(&[0, 1, 0, 0, 1, 0], &confidences);
+    let data = |bits: &[u8], repaired| WordReading::Data {
+        data: bits.to_vec(),
+        repaired,
+    };
+    a([9; 8]) == WordReading::Erased
+        && a([3, 1, 2, 50, 50, 50, 50, 2]) == WordReading::Erased
+        && a([3, 1, 2, 50, 50, 50, 50, 3]) == data(&[1, 0, 1, 1], 2)
+        && a([3, 1, 2, 50, 50, 50, 50, 1]) == data(&[0, 1, 0, 1], 2)
+        && b([1; 6]) == data(&[0, 0, 0], 2)
+        && b([1, 1, 1, 0, 0, 0]) == data(&[0, 1, 0], 3)
+}
+
+/// Example 7's places 0 and 7 with confidences (document 02, T-05): low ones there mend the frame; equal ones make a repeat,
+/// and so do all 0 in the frame as sent. 53 are refused.
+fn confident_frame() -> bool {
+    let receive = |places: &[usize], confidences: &[u8]| {
+        soft::receive(&melp::fresh_record(), &flipped(places), confidences)
+            .map(|(r, _)| (r.kind, r.set.lsf[0], r.repaired))
+    };
+    let mut low = [200; 54];
+    (low[0], low[7]) = (40, 60);
+    receive(&[0, 7], &low) == Ok((Kind::Unvoiced, 90, 2))
+        && receive(&[0, 7], &[200; 54]) == Ok((Kind::Repeat, 0, 0))
+        && receive(&[], &[0; 54]) == Ok((Kind::Repeat, 0, 0))
+        && receive(&[], &[200; 53]) == Err(Refusal::Confidences)
+}
+
 /// Mute bits of so many copies of a frame, received from fresh.
 fn mutes(frame: &[u8], count: usize) -> Result<Vec<u8>, Refusal> {
     let mut record = melp::fresh_record();
@@ -141,7 +174,7 @@ fn example_9() -> bool {
 
 /// The first example that fails, if any does.
 pub fn first_failure() -> Option<&'static str> {
-    let examples: [(&str, fn() -> bool); 9] = [
+    let examples: [(&str, fn() -> bool); 11] = [
         ("1", example_1),
         ("2", example_2),
         ("3", example_3),
@@ -151,6 +184,8 @@ pub fn first_failure() -> Option<&'static str> {
         ("7", example_7),
         ("9", example_9),
         ("of T-02", spare_syndrome),
+        ("of T-05, words", chosen_words),
+        ("of T-05, a frame", confident_frame),
     ];
     examples
         .iter()

@@ -101,7 +101,7 @@ fn random_damage(random: &mut Random) -> Damage {
 }
 
 /// Places that the channel changes, so many where the damage leaves the number open.
-fn flips(random: &mut Random, damage: Damage, count: usize) -> Vec<usize> {
+pub fn flips(random: &mut Random, damage: Damage, count: usize) -> Vec<usize> {
     match damage {
         Damage::None => Vec::new(),
         Damage::Anywhere => random.some_of(&(0..54).collect::<Vec<usize>>(), count),
@@ -164,12 +164,17 @@ fn random_frame(random: &mut Random) -> [u8; 7] {
     frame
 }
 
+/// Give the bytes of a frame a length from 0 to 9, mostly another one.
+pub fn change_length(random: &mut Random, bytes: &mut Vec<u8>) {
+    bytes.extend([random.inside(255), random.inside(255)]);
+    bytes.truncate(random.between(0, 9) as usize);
+}
+
 /// The bytes handed to a receiver: mostly a frame, sometimes of another length.
 pub fn random_received(random: &mut Random) -> Vec<u8> {
     let mut bytes = random_frame(random).to_vec();
     if random.once_in(12) {
-        bytes.extend([random.inside(255), random.inside(255)]);
-        bytes.truncate(random.between(0, 9) as usize);
+        change_length(random, &mut bytes);
     }
     bytes
 }

@@ -4,7 +4,7 @@
 // Each program uses its part.
 #![allow(dead_code)]
 
-/// Refusal numbers of section "Refusals by place", and document 02's 8.
+/// Refusal numbers of section "Refusals by place", and document 02's 8 and 9.
 #[derive(Clone, Copy, Debug, PartialEq, Eq)]
 pub enum Refusal {
     Output = 1,
@@ -15,6 +15,7 @@ pub enum Refusal {
     Codebook = 6,
     Row = 7,
     Line = 8,
+    Confidences = 9,
 }
 
 impl Refusal {
@@ -476,7 +477,7 @@ fn protected_fields(data: &[Vec<u8>]) -> (u8, u8, u8) {
 }
 
 /// The four words of a received frame.
-fn received_words(logical: &[u8; 54]) -> [&[u8]; 4] {
+pub fn received_words(logical: &[u8; 54]) -> [&[u8]; 4] {
     [
         &logical[0..8],
         &logical[8..14],
@@ -519,12 +520,12 @@ fn read_voiced(logical: &[u8; 54], pitch: u8) -> Content {
     }
 }
 
-/// Read a frame with an unvoiced pitch code: check A, repair all four words.
-fn read_unvoiced(logical: &[u8; 54]) -> Content {
+/// A frame with an unvoiced pitch code, by what its four words yield: A is looked at first.
+pub fn unvoiced_content(logical: &[u8; 54], words: [WordReading; 4]) -> Content {
     let mut repaired = ones(&logical[28..35]) as u8;
     let mut data = Vec::new();
-    for word in received_words(logical) {
-        match decode_word(word.len(), word) {
+    for word in words {
+        match word {
             WordReading::Erased => return Content::Erased,
             WordReading::Data {
                 data: bits,
@@ -541,6 +542,12 @@ fn read_unvoiced(logical: &[u8; 54]) -> Content {
     }
 }
 
+/// Read a frame with an unvoiced pitch code: check A, repair all four words.
+fn read_unvoiced(logical: &[u8; 54]) -> Content {
+    let words = received_words(logical);
+    unvoiced_content(logical, words.map(|word| decode_word(word.len(), word)))
+}
+
 /// The 54 bits of a frame by logical number: refuse 2 or 3.
 pub fn bits_of_frame(bytes: &[u8]) -> Result<[u8; 54], Refusal> {
     if bytes.len() != 7 {
@@ -554,9 +561,14 @@ pub fn bits_of_frame(bytes: &[u8]) -> Result<[u8; 54], Refusal> {
     Ok(from_places(&from_bytes(&frame)))
 }
 
+/// Class of the pitch code among 54 bits.
+pub fn class_of_bits(logical: &[u8; 54]) -> Result<PitchClass, Refusal> {
+    pitch_class(number_of(&logical[28..35]))
+}
+
 /// Read 54 bits: classify the pitch code and read on.
 pub fn read_bits(logical: &[u8; 54]) -> Result<Content, Refusal> {
-    match pitch_class(number_of(&logical[28..35]))? {
+    match class_of_bits(logical)? {
         PitchClass::Erased => Ok(Content::Erased),
         PitchClass::Voiced(pitch) => Ok(read_voiced(logical, pitch)),
         PitchClass::Unvoiced => Ok(read_unvoiced(logical)),
@@ -651,9 +663,8 @@ fn accept(
     ))
 }
 
-/// Receive one frame: refuse 2, 3 or 4, else the result and the next record.
-pub fn receive(record: &Record, bytes: &[u8]) -> Result<(FrameResult, Record), Refusal> {
-    let frame = read(bytes)?;
+/// Take a frame as read into a record: refuse 4, else the result and the next record.
+pub fn take(record: &Record, frame: &FrameReading) -> Result<(FrameResult, Record), Refusal> {
     if !record_in_range(record) {
         return Err(Refusal::Record);
     }
@@ -661,4 +672,9 @@ pub fn receive(record: &Record, bytes: &[u8]) -> Result<(FrameResult, Record), R
         Content::Erased => repeat(record, frame.sync),
         Content::Accepted { set, repaired } => accept(record, set, repaired, frame.sync),
     }
+}
+
+/// Receive one frame: refuse 2, 3 or 4, else the result and the next record.
+pub fn receive(record: &Record, bytes: &[u8]) -> Result<(FrameResult, Record), Refusal> {
+    take(record, &read(bytes)?)
 }

@@ -3,7 +3,7 @@
 use crate::coder_vectors::spoil;
 use crate::frames::{random_received, random_set};
 use crate::layout::{kinds_bytes, put, record_bytes, vector_of, Vector};
-use crate::melp::{self, FrameResult, Kind, Record};
+use crate::melp::{self, FrameResult, Kind, Record, Refusal};
 use crate::random::Random;
 use crate::set_bytes::bytes_of;
 
@@ -37,7 +37,7 @@ fn random_record(random: &mut Random) -> Record {
 }
 
 /// A record, once in so many times with a field out of its range.
-fn any_record(random: &mut Random, once_in: u64) -> Record {
+pub fn any_record(random: &mut Random, once_in: u64) -> Record {
     let mut record = random_record(random);
     if random.once_in(once_in) {
         if random.once_in(4) {
@@ -68,18 +68,21 @@ fn result_bytes(result: &FrameResult) -> Vec<u8> {
     .concat()
 }
 
-/// A vector of receiving one frame.
-pub fn receive(random: &mut Random) -> Vector {
-    let record = any_record(random, 8);
-    let received = random_received(random);
-    let mut vector = vector_of(9);
-    put(&mut vector, 1, &record_bytes(&record));
+/// The vector of a kind of receiving: a record, the bytes received, and the answer; a refusal leaves the record.
+pub fn receiving(
+    kind: u8,
+    record: &Record,
+    received: &[u8],
+    answer: Result<(FrameResult, Record), Refusal>,
+) -> Vector {
+    let mut vector = vector_of(kind);
+    put(&mut vector, 1, &record_bytes(record));
     vector[15] = received.len() as u8;
-    put(&mut vector, 16, &received);
-    let next = match melp::receive(&record, &received) {
+    put(&mut vector, 16, received);
+    let next = match answer {
         Err(refusal) => {
             vector[25] = refusal.number();
-            record
+            *record
         }
         Ok((result, next)) => {
             put(&mut vector, 26, &result_bytes(&result));
@@ -88,6 +91,13 @@ pub fn receive(random: &mut Random) -> Vector {
     };
     put(&mut vector, 45, &record_bytes(&next));
     vector
+}
+
+/// A vector of receiving one frame.
+pub fn receive(random: &mut Random) -> Vector {
+    let record = any_record(random, 8);
+    let received = random_received(random);
+    receiving(9, &record, &received, melp::receive(&record, &received))
 }
 
 /// A vector of receiving one frame into a record in place: all else is as in kind 9.

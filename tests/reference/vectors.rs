@@ -1,5 +1,6 @@
-//! Vectors of the independent implementation: `vectors N SEED`, each with a wrong expectation: `vectors N SEED spoilt`, those
-//! that are stored for the gate: `vectors gate`, or `vectors selftest`.
+//! Vectors of the independent implementation: `vectors N SEED`, of receiving with confidences alone: `vectors N SEED soft`,
+//! each with a wrong expectation: `vectors N SEED spoilt`, those that are stored for the gate: `vectors gate`, or
+//! `vectors selftest`.
 
 mod codebook_vectors;
 mod codebooks;
@@ -15,6 +16,8 @@ mod session;
 mod session_vectors;
 mod set_bytes;
 mod set_vectors;
+mod soft;
+mod soft_vectors;
 mod text_rule;
 mod text_vectors;
 
@@ -27,7 +30,7 @@ use std::process::ExitCode;
 // ---- Kinds ----
 
 /// A maker of vectors of each kind, from kind 1 on.
-const MAKERS: [fn(&mut Random) -> Vector; 29] = [
+const MAKERS: [fn(&mut Random) -> Vector; 33] = [
     coder_vectors::pack,
     coder_vectors::class,
     coder_vectors::code,
@@ -57,7 +60,14 @@ const MAKERS: [fn(&mut Random) -> Vector; 29] = [
     session_vectors::writing,
     session_vectors::header,
     session_vectors::line,
+    soft_vectors::word,
+    soft_vectors::reading,
+    soft_vectors::receive,
+    soft_vectors::receive_in_place,
 ];
+
+/// The first kind of receiving with confidences; the kinds after it are of that too.
+const SOFT: usize = 30;
 
 /// One vector of a random kind, a quarter of them of receiving.
 fn random_vector(random: &mut Random) -> Vector {
@@ -65,10 +75,18 @@ fn random_vector(random: &mut Random) -> Vector {
         let way = random.pick(&[
             receiver_vectors::receive,
             receiver_vectors::receive_in_place,
+            soft_vectors::receive,
+            soft_vectors::receive_in_place,
         ]);
         return way(random);
     }
     let maker = random.pick(&MAKERS);
+    maker(random)
+}
+
+/// One vector of a random kind of receiving with confidences.
+fn soft_vector(random: &mut Random) -> Vector {
+    let maker = random.pick(&MAKERS[SOFT - 1..]);
     maker(random)
 }
 
@@ -102,8 +120,8 @@ fn compared(vector: &Vector) -> Vec<usize> {
         6 => (4..=6).collect(),
         7 => (2..=4).collect(),
         8 => (10..=12).collect(),
-        9 | 22 if is_given(25) => once(25).chain(45..=58).collect(),
-        9 | 22 => (25..=58).collect(),
+        9 | 22 | 32 | 33 if is_given(25) => once(25).chain(45..=58).collect(),
+        9 | 22 | 32 | 33 => (25..=58).collect(),
         10 => (9..=15).collect(),
         11 => (11..=19).collect(),
         12 => (12..=19).collect(),
@@ -122,7 +140,11 @@ fn compared(vector: &Vector) -> Vec<usize> {
         27 => vec![18, 19, 20, 1, 2, 5, 6, 7, 8],
         28 => once(18).chain(20..=25).collect(),
         29 => once(18).chain(22..=28).collect(),
-        _ => unreachable!("the makers have 29 kinds"),
+        30 => (11..=13).collect(),
+        31 if is_given(66) => vec![66],
+        31 if is_given(67) => vec![66, 67],
+        31 => (66..=79).collect(),
+        _ => unreachable!("the makers have 33 kinds"),
     }
 }
 
@@ -153,6 +175,7 @@ fn good_vectors(random: &mut Random) -> Vec<Vector> {
     vectors.extend(text_vectors::conditions());
     vectors.extend(set_vectors::conditions());
     vectors.extend(session_vectors::conditions());
+    vectors.extend(soft_vectors::conditions());
     vectors
 }
 
@@ -179,7 +202,7 @@ fn wrong_vectors(random: &mut Random) -> Vec<Vector> {
 }
 
 /// Kinds whose bytes 1 to 11 are a set.
-const SET_KINDS: [usize; 7] = [1, 9, 12, 14, 18, 19, 22];
+const SET_KINDS: [usize; 9] = [1, 9, 12, 14, 18, 19, 22, 32, 33];
 
 /// Vectors with a set in a form that no set has: of a voiced one the first byte is 2, of an unvoiced one the flag is 1.
 fn vectors_of_no_set(random: &mut Random) -> Vec<Vector> {
@@ -199,7 +222,7 @@ fn vectors_of_no_set(random: &mut Random) -> Vec<Vector> {
 
 /// Vectors of no kind, or with an argument that no vector has.
 fn bad_vectors(random: &mut Random) -> Vec<Vector> {
-    let mut vectors = vec![vector_of(0), vector_of(30), vector_of(255)];
+    let mut vectors = vec![vector_of(0), vector_of(34), vector_of(255)];
     let with = |kind: usize, at: usize, bytes: &[u8], random: &mut Random| {
         let mut vector = MAKERS[kind - 1](random);
         layout::put(&mut vector, at, bytes);
@@ -217,6 +240,7 @@ fn bad_vectors(random: &mut Random) -> Vec<Vector> {
     vectors.push(with(23, 1, &[13], random));
     vectors.extend(vectors_of_no_set(random));
     vectors.extend(session_vectors::bad_vectors());
+    vectors.extend(soft_vectors::bad_vectors());
     vectors
 }
 
@@ -276,10 +300,13 @@ fn main() -> ExitCode {
         ["selftest"] => return selftest(),
         ["gate"] => write_gate(&mut output),
         [count, seed] => write_vectors(&mut output, number(count), number(seed), random_vector),
+        [count, seed, "soft"] => {
+            write_vectors(&mut output, number(count), number(seed), soft_vector)
+        }
         [count, seed, "spoilt"] => {
             write_vectors(&mut output, number(count), number(seed), spoilt_vector)
         }
-        _ => panic!("usage: vectors N SEED [spoilt] | vectors gate | vectors selftest"),
+        _ => panic!("usage: vectors N SEED [soft | spoilt] | vectors gate | vectors selftest"),
     };
     match written.and_then(|()| output.flush()) {
         Ok(()) => ExitCode::SUCCESS,
