@@ -11,3 +11,4 @@ pub mod ReceivingCalls
 pub mod Scripts
 pub mod Sessions
 pub mod Demands
+pub mod SoftCalls

@@ -3,7 +3,8 @@
 -- Given: a list of packing calls on one sender from the fresh sync bit, a channel that changes any of each frame's places 0 to 53,
 -- and a list of receiving calls on one receiver from any record, of which those not refused get exactly the frames packed, as the
 -- channel hands them on, each once and in order. Refused calls stand anywhere in both lists. Nothing is asked of the record: one
--- that is not valid has every call refused, so no frame is received by it. What refuses a call is its kind's to say.
+-- that is not valid has every call refused, so no frame is received by it. What refuses a call is its kind's to say. The receiving calls
+-- are those without confidences; of those with confidences `SoftCalls` speaks (document 02, T-05).
 --
 -- Claimed: all that is observed of every call is what the reference model gives, which is fed arguments alone; and of every frame
 -- packed, whatever its flips and whatever went before it, what `RowClaim` and `PairClaim` say.

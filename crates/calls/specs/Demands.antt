@@ -1,5 +1,5 @@
 -- Demands 2 and 3 for the calls of the code: every packing call is one of `frame::pack`, every receiving call one of `receiver::receive`
--- or `receiver::receive_in_place`, mixed at will; of each only its contract is known. Proved in the law file of this name.
+-- or `receiver::receive_in_place`, mixed at will, none with confidences; of each only its contract is known. Proved in the law file of this name.
 use Prim.Native.Nat.{ℕ}
 use mathlib.Core.Bool.{Bool}
 use mathlib.Core.List.{List}

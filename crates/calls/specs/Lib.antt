@@ -6,3 +6,4 @@ pub mod Claim
 pub mod Script
 pub mod CodeCalls
 pub mod Demands
+pub mod SoftCalls

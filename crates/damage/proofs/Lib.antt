@@ -6,3 +6,4 @@ pub mod Syndromes
 pub mod Neighbours
 pub mod Flips
 pub mod Arrival
+pub mod SoftReturn

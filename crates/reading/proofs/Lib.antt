@@ -6,3 +6,4 @@ pub mod Erasures
 pub mod SoftAnswers
 pub mod SoftExtent
 pub mod SoftRanges
+pub mod SoftClaims

@@ -8,3 +8,4 @@ pub mod Frames
 pub mod SoftRefusals
 pub mod SoftAnswers
 pub mod Values
+pub mod SoftClaims

@@ -3,3 +3,4 @@ pub mod Receiving
 pub mod SoftReceiving
 pub mod Frames
 pub mod Sync
+pub mod SoftClaims

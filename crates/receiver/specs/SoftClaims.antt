@@ -1,0 +1,38 @@
+-- Document 02, T-05: what is claimed of receiving with confidences beside receiving without, in any order of the bits, for every record and every
+-- frame, refused ones included. Proved in the law file of this name; the words stand in `reading:SoftClaims`.
+use Prim.Native.Nat.{ℕ, _<_}
+use mathlib.Core.Path.{_≡_}
+use mathlib.Core.List.{List}
+use lib.Dec.{T}
+use lib.ListN.{length, replicate}
+use Rattle.pitch.specs.Pitch.{classOf}
+use Rattle.pitch.specs.declared.PitchClass.the-variants as class
+use Rattle.order.specs.Order.{Order, logicalBit}
+use Rattle.order.specs.Fields.{pitchBits, syncBit}
+use Rattle.sets.specs.declared.Indices.{Indices}
+use Rattle.sets.specs.declared.ParameterSet.the-variants.{Unvoiced}
+use Rattle.reading.specs.SoftClaims.{SpareShown}
+use Rattle.records.specs.Records.{valid}
+use Rattle.records.specs.declared.Record.{Record}
+use Rattle.receiver.specs.Steps.{accepted, repeated}
+use Rattle.receiver.specs.Receiving.{receiveRefusal, receive}
+use Rattle.receiver.specs.SoftReceiving.{softReceive}
+
+module _ (ord : List ℕ) (r : Record) (bytes : List ℕ) where
+  -- with these confidences the frame is accepted as an unvoiced one
+  pub record AcceptsUnvoiced (confidences : List ℕ) : Type 0 where
+    pub indices : Indices
+    pub repaired : ℕ
+    pub received : softReceive ord r bytes confidences ≡ accepted r (syncBit (logicalBit ord bytes)) (Unvoiced indices) repaired
+
+  pub record SoftClaims : Type 0 where
+    -- under a voiced or an erased pitch code any 54 confidences give the result and the record of the old way
+    pub alone : (classOf (pitchBits (logicalBit ord bytes)) ≡ class.Unvoiced → ⊥) → (confidences : List ℕ) → length confidences ≡ 54
+        → softReceive ord r bytes confidences ≡ receive ord r bytes
+    -- so do 54 equal ones above 0, under any pitch code, except where the spare is shown
+    pub equal : Order ord → (k : ℕ) → 0 < k → (SpareShown (logicalBit ord bytes) → ⊥) → softReceive ord r bytes (replicate 54 k) ≡ receive ord r bytes
+    -- there, where the frame and the record are not refused, the old way makes a repeat and this one accepts
+    pub spare-repeated : SpareShown (logicalBit ord bytes) → receiveRefusal r bytes ≡ 0 → receive ord r bytes ≡ repeated r (syncBit (logicalBit ord bytes))
+    pub spare-accepted : Order ord → (k : ℕ) → 0 < k → SpareShown (logicalBit ord bytes) → receiveRefusal r bytes ≡ 0 → AcceptsUnvoiced (replicate 54 k)
+    -- a valid record stays valid
+    pub stays-valid : T (valid r) → (confidences : List ℕ) → T (valid (softReceive ord r bytes confidences .next))
