@@ -1,12 +1,14 @@
 // The sum over all whole frames, received one after another from a fresh record on.
-use crate::sums::of_answer;
+use answer_sums::eight_bytes;
+use answer_sums::of_answer;
 use records::Record;
 ghost use mathlib.Core.Path.{_≡_};
 ghost use Prim.Native.Nat.{suc, _+_, _*_, _≤_};
 ghost use lib.ListN.{length, take};
 ghost use Rattle.io.specs.Counts.{Counts};
 ghost use Rattle.receiver.specs.Frames.{framesIn, recordAfter, answerAt};
-ghost use Rattle.bench_receive.specs.Sums.{answerSum, sumBefore, eightBytes};
+ghost use Rattle.answer_sums.specs.Sums.{answerSum, eightBytes};
+ghost use Rattle.bench_receive.specs.Sums.{sumBefore};
 
 // The receiver's record, and the sum so far.
 struct Total {
@@ -45,22 +47,6 @@ fn sum_of(bytes: &[u8]) -> u64
         total = take_frame(total, bytes, k);
     }
     total.sum
-}
-
-// A number in eight bytes, most significant first.
-fn eight_bytes(n: u64) -> [u8; 8]
-    ensures { λ r. ⌜ r ≡ eightBytes n ⌝ }
-{
-    [
-        (n / 0x100000000000000 % 256) as u8,
-        (n / 0x1000000000000 % 256) as u8,
-        (n / 0x10000000000 % 256) as u8,
-        (n / 0x100000000 % 256) as u8,
-        (n / 0x1000000 % 256) as u8,
-        (n / 0x10000 % 256) as u8,
-        (n / 0x100 % 256) as u8,
-        (n % 256) as u8,
-    ]
 }
 
 // The sum in bytes, of the input of which the first `size` bytes of a buffer were read.

@@ -2,9 +2,7 @@
 // `receive` by itself is measured with it (bench/run.sh): the sum needs every number of an answer, and no text is made.
 //
 //   frames  the sum over all frames
-//   sums    what one answer adds to it
 mod frames;
-mod sums;
 
 // Reads the frames and writes their sum. Bytes past the 65,534th stay unread.
 fn main() {

@@ -3,12 +3,13 @@
 use Prim.Native.Nat.{ℕ}
 use mathlib.Core.Path.{_≡_}
 use mathlib.Core.Bool.{true, false}
-use mathlib.Core.List.{List, [], _∷_}
+use mathlib.Core.List.{List, [], _∷_, _++_}
 use lib.IntN.{pos}
 use lib.ListN.{replicate}
 use Rattle.bits.specs.Bits.{bits}
 use Rattle.hamming.specs.Word.{encode, flipAt, decode}
 use Rattle.hamming.specs.declared.Decoded.the-variants.{Read, Erased}
+use Rattle.soft.specs.Choice.{choose}
 use Rattle.order.specs.Order.{defaultOrder}
 use Rattle.sets.specs.declared.ParameterSet.{ParameterSet}
 use Rattle.sets.specs.declared.ParameterSet.the-variants.{Voiced}
@@ -19,6 +20,7 @@ use Rattle.frame.specs.declared.PackAnswer.the-variants.{Packed}
 use Rattle.records.specs.Records.{fresh, acceptedKind}
 use Rattle.records.specs.declared.Record.{Record}
 use Rattle.receiver.specs.Receiving.{receiveRefusal, receive}
+use Rattle.receiver.specs.SoftReceiving.{softRefusal, softReceive}
 use Rattle.receiver.specs.declared.Kind.the-variants as kind
 use Rattle.receiver.specs.declared.ReceiveAnswer.the-variants.{Result}
 use Rattle.examples.specs.Examples.{ninety, ninetyBytes, zeros, changed}
@@ -90,6 +92,43 @@ pub record SpareSyndrome : Type 0 where
     repaired = 1;
   })
 
+-- document 02, T-05: word A of data 1011 came with u0 and u1 flipped, which is as far from three other code words. Where u0 and u1 cost 3 and 1, u2 and
+-- p3 decide: as much as these erase, more leave 1011, less give 0101. Word B of data 010 came with its parity flipped: at equal confidences three
+-- code words cost 2, and 000 wins; at confidences of 0 in the parity it stands
+abbrev pub costly : ℕ → List ℕ
+costly p3 = 3 ∷ 1 ∷ 2 ∷ 50 ∷ 50 ∷ 50 ∷ 50 ∷ p3 ∷ []
+
+-- the 54 confidences of a frame: 40 at place 0, 60 at place 7, 200 at every other
+abbrev pub doubtful : List ℕ
+doubtful = 40 ∷ replicate 6 200 ++ 60 ∷ replicate 46 200
+
+-- example 7's frame, which is a repeat without confidences and with equal ones, is mended with these; 53 confidences are refused
+pub record Confidences : Type 0 where
+  pub tied : choose 8 (costly 2) (bits 8 0b01110100) ≡ Erased
+  pub dearer : choose 8 (costly 3) (bits 8 0b01110100) ≡ Read 0b1011 2
+  pub cheaper : choose 8 (costly 1) (bits 8 0b01110100) ≡ Read 0b0101 2
+  pub smallest : choose 6 (replicate 6 1) (bits 6 0b010010) ≡ Read 0b000 2
+  pub stands : choose 6 (1 ∷ 1 ∷ 1 ∷ 0 ∷ 0 ∷ 0 ∷ []) (bits 6 0b010010) ≡ Read 0b010 3
+  pub repeats : softReceive defaultOrder fresh (changed (0 ∷ 7 ∷ [])) (replicate 54 200) .answer ≡ Result (record {
+    kind = kind.Repeat;
+    set = zeros;
+    first = 1860;
+    second = 1860;
+    mute = false;
+    sync = false;
+    repaired = 0;
+  })
+  pub mended : softReceive defaultOrder fresh (changed (0 ∷ 7 ∷ [])) doubtful .answer ≡ Result (record {
+    kind = kind.Unvoiced;
+    set = ninety;
+    first = 4071;
+    second = 6282;
+    mute = false;
+    sync = false;
+    repaired = 2;
+  })
+  pub one-missing : softRefusal fresh ninetyBytes (replicate 53 200) ≡ 9
+
 -- first levels at the mean, 5880 where q = 9 and 5679 where q = 8: steady for a distance of 2, and for one of 3 the fourth of the seven levels
 pub record Distance : Type 0 where
   pub two : chooseAnswer (pos 5880) (pos 6282) 9 ≡ Codes 11 0
@@ -119,5 +158,6 @@ pub record WorkedExamples : Type 0 where
   pub repeat : Repeat
   pub record-range : RecordRange
   pub spare-syndrome : SpareSyndrome
+  pub confidences : Confidences
   pub distance : Distance
   pub limits : Limits

@@ -17,15 +17,15 @@ ghost use Rattle.pitch.specs.declared.PitchClass.the-variants as class;
 ghost use Rattle.reading.specs.SoftReading.{confidenceOf, softByClass, softRead, readAnswer};
 
 // The confidences of eight logical bits in a row, each from its place in the default order.
-fn eight_confidences(confidences: &[u8], first: usize) -> [u8; 8]
+fn eight(confidences: &[u8], first: usize) -> [u8; 8]
     requires { ⌜ (length (now confidences) ≡ 54) × (first ≤ 46) ⌝ }
     ensures { λ r. ⌜ r ≡ cut (confidenceOf defaultOrder (now (confidences .entry))) first 8 ⌝ }
 {
-    let mut eight = [0; 8];
+    let mut found = [0; 8];
     for i in 0..8 {
-        eight[i] = confidences[7 * (first + i) % 54];
+        found[i] = confidences[7 * (first + i) % 54];
     }
-    eight
+    found
 }
 
 // An unvoiced frame: each word is chosen by the confidences of its bits. Of eight the shorter words take the first few.
@@ -33,26 +33,10 @@ fn soft_unvoiced(bits: u64, confidences: &[u8]) -> Reading
     requires { ⌜ length (now confidences) ≡ 54 ⌝ }
     ensures { λ r. ⌜ r ≡ softByClass (carried 54 bits) (confidenceOf defaultOrder (now (confidences .entry))) class.Unvoiced ⌝ }
 {
-    let a = choose(
-        WordLength::Eight,
-        part(bits, 0, 8),
-        eight_confidences(confidences, 0),
-    );
-    let b = choose(
-        WordLength::Six,
-        part(bits, 8, 6),
-        eight_confidences(confidences, 8),
-    );
-    let c = choose(
-        WordLength::Seven,
-        part(bits, 14, 7),
-        eight_confidences(confidences, 14),
-    );
-    let d = choose(
-        WordLength::Seven,
-        part(bits, 21, 7),
-        eight_confidences(confidences, 21),
-    );
+    let a = choose(WordLength::Eight, part(bits, 0, 8), eight(confidences, 0));
+    let b = choose(WordLength::Six, part(bits, 8, 6), eight(confidences, 8));
+    let c = choose(WordLength::Seven, part(bits, 14, 7), eight(confidences, 14));
+    let d = choose(WordLength::Seven, part(bits, 21, 7), eight(confidences, 21));
     from_words(bits, a, b, c, d)
 }
 

@@ -8,6 +8,7 @@ use crate::receiving;
 use crate::rows;
 use crate::sessions;
 use crate::short;
+use crate::soft_words;
 use crate::texts;
 use crate::values;
 use crate::vector::byte;
@@ -75,7 +76,7 @@ fn ranged_agrees(r: &[u8; 256], kind: u8) -> bool {
 pub(crate) fn agrees(r: &[u8; 256]) -> bool {
     let kind = byte(r, 0);
     match kind {
-        1 | 9 | 12 | 14 | 22 => set_call_agrees(r, kind),
+        1 | 9 | 12 | 14 | 22 | 32 | 33 => set_call_agrees(r, kind),
         8 => choosing::choice_agrees(r),
         10 => frames::frame_agrees(r),
         11 => frames::logical_agrees(r),
@@ -87,6 +88,8 @@ pub(crate) fn agrees(r: &[u8; 256]) -> bool {
         27 => sessions::write_agrees(r),
         28 => sessions::header_agrees(r),
         29 => sessions::line_agrees(r),
+        30 => soft_words::choice_agrees(r),
+        31 => soft_words::reading_agrees(r),
         _ => ranged_agrees(r, kind),
     }
 }

@@ -29,7 +29,7 @@ fn code_number(index: u8) -> usize {
 }
 
 // The length of a word; anything else than 6 or 7 is 8.
-fn length_of(n: u8) -> WordLength {
+pub(crate) fn length_of(n: u8) -> WordLength {
     match n {
         6 => WordLength::Six,
         7 => WordLength::Seven,
@@ -38,8 +38,8 @@ fn length_of(n: u8) -> WordLength {
 }
 
 // Whether the word is erased, its data, and the repaired count.
-fn word_number(length: u8, word: u8) -> usize {
-    match hamming::decode(length_of(length), word) {
+pub(crate) fn word_number(outcome: Decoded) -> usize {
+    match outcome {
         Decoded::Erased => 65536,
         Decoded::Read(data, repaired) => joined(0, data, repaired),
     }
@@ -58,7 +58,7 @@ pub(crate) fn answer(kind: u8, a: u8, b: u8, c: u8) -> usize {
     match kind {
         2 => class_number(a),
         3 => code_number(a),
-        4 => word_number(a, b),
+        4 => word_number(hamming::decode(length_of(a), b)),
         5 => hamming::parity_of(length_of(a), b) as usize,
         6 => level_number(gain::first_level(a, b, c)),
         _ => level_number(gain::level(a)),

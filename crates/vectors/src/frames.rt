@@ -7,6 +7,7 @@ use crate::vector::refused;
 use crate::vector::set_agrees;
 use order::BitsAnswer;
 use reading::Reading;
+ghost use Prim.Native.Nat.{_≤_};
 
 // Kind 10: the frame of 54 bits.
 pub(crate) fn frame_agrees(r: &[u8; 256]) -> bool {
@@ -25,13 +26,21 @@ pub(crate) fn logical_agrees(r: &[u8; 256]) -> bool {
     }
 }
 
-// Kind 13: what 54 bits are read as; of an erasure nothing else is told.
-pub(crate) fn reading_agrees(r: &[u8; 256]) -> bool {
-    let erased = byte(r, 9) == 1;
-    match reading::read(number(r, 1, 8) as u64) {
-        Reading::Erased => erased,
+// Whether 54 bits are read as the thirteen bytes from `start` say: erased, the set, and the repaired count. Of an erasure
+// nothing else is told.
+pub(crate) fn content_agrees(r: &[u8; 256], start: usize, reading: Reading) -> bool
+    requires { ⌜ start ≤ 243 ⌝ }
+{
+    let erased = r[start];
+    match reading {
+        Reading::Erased => erased == 1,
         Reading::Accepted(set, repaired) => {
-            !erased & set_agrees(r, 10, set) & (byte(r, 21) == repaired)
+            (erased == 0) & set_agrees(r, start + 1, set) & (r[start + 12] == repaired)
         }
     }
+}
+
+// Kind 13: what 54 bits are read as.
+pub(crate) fn reading_agrees(r: &[u8; 256]) -> bool {
+    content_agrees(r, 9, reading::read(number(r, 1, 8) as u64))
 }

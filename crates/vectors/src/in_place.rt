@@ -4,6 +4,7 @@ use records::Record;
 ghost use mathlib.Core.Path.{_≡_};
 ghost use Rattle.order.specs.Order.{defaultOrder};
 ghost use Rattle.receiver.specs.Receiving.{receive};
+ghost use Rattle.receiver.specs.SoftReceiving.{softReceive};
 
 // A frame into a record in place: the answer, and the record as the call leaves it.
 pub(crate) fn in_place(rec: Record, frame: &[u8]) -> Received
@@ -11,5 +12,14 @@ pub(crate) fn in_place(rec: Record, frame: &[u8]) -> Received
 {
     let mut kept = rec;
     let answer = receiver::receive_in_place(&mut kept, frame);
+    Received { answer, next: kept }
+}
+
+// The same with a confidence for each place of the frame.
+pub(crate) fn soft_in_place(rec: Record, frame: &[u8], confidences: &[u8]) -> Received
+    ensures { λ r. ⌜ r ≡ softReceive defaultOrder rec (now (frame .entry)) (now (confidences .entry)) ⌝ }
+{
+    let mut kept = rec;
+    let answer = receiver::receive_soft_in_place(&mut kept, frame, confidences);
     Received { answer, next: kept }
 }

@@ -9,8 +9,9 @@
 //   packing        packing
 //   parameters     sets: their ranges and their bytes
 //   frames         the 54 bits of a frame, and what a frame is read as
+//   soft_words     words and frames read by confidences
 //   receiving      receiving, and a receiver's record
-//   in_place       receiving into a record in place
+//   in_place       receiving into a record in place, with confidences and without
 //   codebooks      the codebook of a vector, by a rule
 //   rows           rows of a codebook
 //   values         LSF values and magnitudes
@@ -33,6 +34,7 @@ mod rows;
 mod session_texts;
 mod sessions;
 mod short;
+mod soft_words;
 mod text_rule;
 mod texts;
 mod values;

@@ -1,5 +1,6 @@
 // Vectors of receiving and of a receiver's record.
 use crate::in_place::in_place;
+use crate::in_place::soft_in_place;
 use crate::vector::bit;
 use crate::vector::byte;
 use crate::vector::joined;
@@ -95,21 +96,30 @@ fn answer_agrees(r: &[u8; 256], answer: ReceiveAnswer) -> bool {
     }
 }
 
-// A frame into a record: by value in kind 9, in place in kind 22.
-fn received(kind: u8, rec: Record, frame: &[u8]) -> Received {
-    if kind == 22 {
-        return in_place(rec, frame);
+// A frame into a record: by value in kind 9, in place in kind 22, and the same with confidences in kinds 32 and 33.
+fn received(kind: u8, rec: Record, frame: &[u8], confidences: &[u8]) -> Received {
+    match kind {
+        9 => receiver::receive(rec, frame),
+        22 => in_place(rec, frame),
+        32 => receiver::receive_soft(rec, frame, confidences),
+        _ => soft_in_place(rec, frame, confidences),
     }
-    receiver::receive(rec, frame)
 }
 
-// Kinds 9 and 22: receiving; the answer, and the record after it.
+// Kinds 9, 22, 32 and 33: receiving; the answer, and the record after it. Kinds 9 and 22 have no
+// confidences, the others at most 56.
 pub(crate) fn receive_agrees(r: &[u8; 256], kind: u8, last: ParameterSet) -> bool {
     let size = number(r, 15, 1);
-    let received = received(kind, record_of(r, last), part(r, 16, size));
+    let count = number(r, 59, 1);
+    let received = received(
+        kind,
+        record_of(r, last),
+        part(r, 16, size),
+        part(r, 60, count),
+    );
     let answer = received.answer;
     let next = received.next;
-    (size <= 9) & answer_agrees(r, answer) & record_agrees(r, 45, next)
+    (size <= 9) & (count <= 56) & answer_agrees(r, answer) & record_agrees(r, 45, next)
 }
 
 // Whether the kinds after a frame of the kind in byte 15 are those in bytes 18 and 19. An accepted frame has the set that the

@@ -1,7 +1,7 @@
 -- `bench_receive::frames::sum_bytes` meets its contract: the bytes that were read are summed. Assumes nothing.
 use mathlib.Core.Path.{ap, _∙_}
 use native.Mathlib.Omega.{arith}
-use Rattle.bench_receive.specs.Sums.{eightBytes}
+use Rattle.answer_sums.specs.Sums.{eightBytes}
 use Rattle.bench_receive.proofs.frames.sum_bytes.Statement.{statement}
 use Rattle.bench_receive.proofs.frames.sum_bytes.Tie as tie
 

@@ -5,7 +5,8 @@ use native.Mathlib.Numerals.{add-one}
 use native.Mathlib.Omega.{arith}
 use lib.ListN.{length}
 use Rattle.receiver.specs.Frames.{recordAfter, answerAt}
-use Rattle.bench_receive.specs.Sums.{answerSum, sumBefore}
+use Rattle.answer_sums.specs.Sums.{answerSum}
+use Rattle.bench_receive.specs.Sums.{sumBefore}
 use Rattle.bench_receive.proofs.frames.sum_of.Statement.{statement}
 use Rattle.bench_receive.proofs.frames.sum_of.Tie as tie
 

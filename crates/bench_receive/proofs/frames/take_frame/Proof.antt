@@ -3,7 +3,7 @@ use mathlib.Core.Path.{_≡_, ap, _∙_}
 use Prim.Native.Nat.{_+_}
 use native.Mathlib.Omega.{arith}
 use Rattle.receiver.proofs.Frames.{answer-is, next-is}
-use Rattle.bench_receive.specs.Sums.{answerSum}
+use Rattle.answer_sums.specs.Sums.{answerSum}
 use Rattle.bench_receive.proofs.frames.take_frame.Statement.{statement}
 use Rattle.bench_receive.proofs.frames.take_frame.Tie as tie
 

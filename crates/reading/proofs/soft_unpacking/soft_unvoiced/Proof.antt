@@ -21,8 +21,8 @@ use Rattle.reading.proofs.soft_unpacking.soft_unvoiced.Tie as tie
 part-requires : tie.Need-part-requires
 part-requires c κs = omega arith
 
-eight-confidences-requires : tie.Need-eight-confidences-requires
-eight-confidences-requires c κs = (c .before .before .pre, omega arith)
+eight-requires : tie.Need-eight-requires
+eight-requires c κs = (c .before .before .pre, omega arith)
 
 choose-requires : tie.Need-choose-requires
 choose-requires c κs = tt
@@ -30,8 +30,8 @@ choose-requires c κs = tt
 part-requires-2 : tie.Need-part-requires-2
 part-requires-2 c κs = omega arith
 
-eight-confidences-requires-2 : tie.Need-eight-confidences-requires-2
-eight-confidences-requires-2 c κs = (c .before .before .before .before .before .pre, omega arith)
+eight-requires-2 : tie.Need-eight-requires-2
+eight-requires-2 c κs = (c .before .before .before .before .before .pre, omega arith)
 
 choose-requires-2 : tie.Need-choose-requires-2
 choose-requires-2 c κs = tt
@@ -39,8 +39,8 @@ choose-requires-2 c κs = tt
 part-requires-3 : tie.Need-part-requires-3
 part-requires-3 c κs = omega arith
 
-eight-confidences-requires-3 : tie.Need-eight-confidences-requires-3
-eight-confidences-requires-3 c κs = (c .before .before .before .before .before .before .before .before .pre, omega arith)
+eight-requires-3 : tie.Need-eight-requires-3
+eight-requires-3 c κs = (c .before .before .before .before .before .before .before .before .pre, omega arith)
 
 choose-requires-3 : tie.Need-choose-requires-3
 choose-requires-3 c κs = tt
@@ -48,8 +48,8 @@ choose-requires-3 c κs = tt
 part-requires-4 : tie.Need-part-requires-4
 part-requires-4 c κs = omega arith
 
-eight-confidences-requires-4 : tie.Need-eight-confidences-requires-4
-eight-confidences-requires-4 c κs = (c .before .before .before .before .before .before .before .before .before .before .before .pre, omega arith)
+eight-requires-4 : tie.Need-eight-requires-4
+eight-requires-4 c κs = (c .before .before .before .before .before .before .before .before .before .before .before .pre, omega arith)
 
 choose-requires-4 : tie.Need-choose-requires-4
 choose-requires-4 c κs = tt
@@ -77,22 +77,22 @@ module _ (at-d : tie.After-choose4) where
   read-a : at-a .choose .result ≡ choose 8 (wordA q) (wordA g)
   read-a =
       at-a .choose .ensures
-      ∙ (λ i. choose 8 (take 8 (at-a .before .eight-confidences .ensures i)) (bits-back g 0 8 _ (at-a .before .before .part .ensures .0) i))
+      ∙ (λ i. choose 8 (take 8 (at-a .before .eight .ensures i)) (bits-back g 0 8 _ (at-a .before .before .part .ensures .0) i))
 
   read-b : at-b .choose2 .result ≡ choose 6 (wordB q) (wordB g)
   read-b =
       at-b .choose2 .ensures
-      ∙ (λ i. choose 6 (take 6 (at-b .before .eight-confidences2 .ensures i)) (bits-back g 8 6 _ (at-b .before .before .part2 .ensures .0) i))
+      ∙ (λ i. choose 6 (take 6 (at-b .before .eight2 .ensures i)) (bits-back g 8 6 _ (at-b .before .before .part2 .ensures .0) i))
 
   read-c : at-c .choose3 .result ≡ choose 7 (wordC q) (wordC g)
   read-c =
       at-c .choose3 .ensures
-      ∙ (λ i. choose 7 (take 7 (at-c .before .eight-confidences3 .ensures i)) (bits-back g 14 7 _ (at-c .before .before .part3 .ensures .0) i))
+      ∙ (λ i. choose 7 (take 7 (at-c .before .eight3 .ensures i)) (bits-back g 14 7 _ (at-c .before .before .part3 .ensures .0) i))
 
   read-d : at-d .choose4 .result ≡ choose 7 (wordD q) (wordD g)
   read-d =
       at-d .choose4 .ensures
-      ∙ (λ i. choose 7 (take 7 (at-d .before .eight-confidences4 .ensures i)) (bits-back g 21 7 _ (at-d .before .before .part4 .ensures .0) i))
+      ∙ (λ i. choose 7 (take 7 (at-d .before .eight4 .ensures i)) (bits-back g 21 7 _ (at-d .before .before .part4 .ensures .0) i))
 
 -- an outcome that is chosen for a word fits it
 fits : (n : ℕ) (q : List ℕ) (w : List Bool) (r : Decoded) → length w ≡ n → r ≡ choose n q w → Bounded n r
@@ -116,16 +116,16 @@ soft-unvoiced-spec =
     tie.close
     (tie.spec
     part-requires
-    eight-confidences-requires
+    eight-requires
     choose-requires
     part-requires-2
-    eight-confidences-requires-2
+    eight-requires-2
     choose-requires-2
     part-requires-3
-    eight-confidences-requires-3
+    eight-requires-3
     choose-requires-3
     part-requires-4
-    eight-confidences-requires-4
+    eight-requires-4
     choose-requires-4
     from-words-requires
     returns)

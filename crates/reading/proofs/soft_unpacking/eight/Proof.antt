@@ -1,4 +1,4 @@
--- `reading::soft_unpacking::eight_confidences` meets its contract: after i turns the first i stand in front. Assumes nothing.
+-- `reading::soft_unpacking::eight` meets its contract: after i turns the first i stand in front. Assumes nothing.
 use mathlib.Core.Path.{_≡_, refl, sym, ap, ap₂, _∙_}
 use mathlib.Core.List.{List, _++_}
 use Prim.Native.Nat.{ℕ, _+_, _*_, _-_, _%_, _≤_, _<_}
@@ -10,8 +10,8 @@ use Rattle.bits.proofs.Front.{front-more, front-all}
 use Rattle.order.specs.Order.{defaultOrder}
 use Rattle.order.proofs.DefaultOrder.{default-place}
 use Rattle.reading.specs.SoftReading.{confidenceOf}
-use Rattle.reading.proofs.soft_unpacking.eight_confidences.Statement.{statement}
-use Rattle.reading.proofs.soft_unpacking.eight_confidences.Tie as tie
+use Rattle.reading.proofs.soft_unpacking.eight.Statement.{statement}
+use Rattle.reading.proofs.soft_unpacking.eight.Tie as tie
 
 -- the eight, and that each is found by its product
 abbrev target : List ℕ → ℕ → List ℕ
@@ -22,26 +22,26 @@ target-at confidences first i h k =
     ap (λ (t : ℕ). getD confidences t 0) (sym (default-place (first + i) (omega arith))) ∙ sym (cut-at 0 (confidenceOf defaultOrder confidences) first 8 i k)
 
 abbrev Inv-loop : tie.InvT-loop
-Inv-loop confidences first eight₀ i₀ eight i =
-    (i ≤ 8) × (first ≤ 46) × (length confidences ≡ 54) × (eight ≡ take i (target confidences first) ++ drop i (replicate 8 0))
+Inv-loop confidences first found₀ i₀ found i =
+    (i ≤ 8) × (first ≤ 46) × (length confidences ≡ 54) × (found ≡ take i (target confidences first) ++ drop i (replicate 8 0))
 
 abbrev μ-loop : tie.MeasureT-loop
-μ-loop confidences first eight₀ i₀ eight i = 8 - i
+μ-loop confidences first found₀ i₀ found i = 8 - i
 
 loop-holds : tie.Need-loop-holds Inv-loop μ-loop
 loop-holds c = (omega arith, c .pre .1, c .pre .0, refl)
 
-add-eight : tie.Need-add-eight Inv-loop μ-loop
-add-eight c = omega arith
+add-found : tie.Need-add-found Inv-loop μ-loop
+add-found c = omega arith
 
-mul-eight : tie.Need-mul-eight Inv-loop μ-loop
-mul-eight c = omega arith
+mul-found : tie.Need-mul-found Inv-loop μ-loop
+mul-found c = omega arith
 
-shared-slice-read-eight : tie.Need-shared-slice-read-eight Inv-loop μ-loop
-shared-slice-read-eight c = omega arith
+shared-slice-read-found : tie.Need-shared-slice-read-found Inv-loop μ-loop
+shared-slice-read-found c = omega arith
 
-array-write-eight : tie.Need-array-write-eight Inv-loop μ-loop
-array-write-eight c = omega arith
+array-write-found : tie.Need-array-write-found Inv-loop μ-loop
+array-write-found c = omega arith
 
 add-i : tie.Need-add-i Inv-loop μ-loop
 add-i c = omega arith
@@ -65,19 +65,19 @@ returns : tie.Need-returns Inv-loop μ-loop
 returns c =
     let L = c .before .loop in
     let a = c .before .before .args in
-    front-all (target (a .confidences .now) (a .first)) (replicate 8 0) (L .eight) (L .i) 8 (L .inv .3) (omega arith) (omega arith)
+    front-all (target (a .confidences .now) (a .first)) (replicate 8 0) (L .found) (L .i) 8 (L .inv .3) (omega arith) (omega arith)
 
-pub eight-confidences-spec : {M : Type 1} → statement M
-eight-confidences-spec =
+pub eight-spec : {M : Type 1} → statement M
+eight-spec =
     tie.close
     (tie.spec
     Inv-loop
     μ-loop
     loop-holds
-    add-eight
-    mul-eight
-    shared-slice-read-eight
-    array-write-eight
+    add-found
+    mul-found
+    shared-slice-read-found
+    array-write-found
     add-i
     loop-less
     loop-again

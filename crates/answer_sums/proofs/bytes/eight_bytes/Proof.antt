@@ -1,11 +1,11 @@
--- `bench_receive::frames::eight_bytes` meets its contract: each byte is a shift and a remainder. Assumes nothing.
+-- `answer_sums::bytes::eight_bytes` meets its contract: each byte is a shift and a remainder. Assumes nothing.
 use mathlib.Core.Path.{sym}
 use mathlib.Core.List.{[], _∷_}
 use Prim.Native.Nat.{_/_, _%_, _^_}
 use native.Mathlib.Nat.{div-one}
 use native.Mathlib.Omega.{arith}
-use Rattle.bench_receive.proofs.frames.eight_bytes.Statement.{statement}
-use Rattle.bench_receive.proofs.frames.eight_bytes.Tie as tie
+use Rattle.answer_sums.proofs.bytes.eight_bytes.Statement.{statement}
+use Rattle.answer_sums.proofs.bytes.eight_bytes.Tie as tie
 
 cast-t4 : tie.Need-cast-t4
 cast-t4 c = omega arith

@@ -1,10 +1,10 @@
--- `bench_receive::sums::of_set` meets its contract: each arm adds what its calls give. Assumes nothing.
+-- `answer_sums::sums::of_set` meets its contract: each arm adds what its calls give. Assumes nothing.
 use mathlib.Core.Path.{_≡_, sym, ap, ap₂, _∙_}
 use Prim.Native.Nat.{_+_}
 use native.Mathlib.Omega.{arith}
-use Rattle.bench_receive.specs.Sums.{setSum}
-use Rattle.bench_receive.proofs.sums.of_set.Statement.{statement}
-use Rattle.bench_receive.proofs.sums.of_set.Tie as tie
+use Rattle.answer_sums.specs.Sums.{setSum}
+use Rattle.answer_sums.proofs.sums.of_set.Statement.{statement}
+use Rattle.answer_sums.proofs.sums.of_set.Tie as tie
 
 enum-known-set : tie.Need-enum-known-set
 enum-known-set c = omega arith

@@ -1,9 +1,9 @@
--- `bench_receive::sums::of_answer` meets its contract: a result adds its numbers, a refusal its own. Assumes nothing.
+-- `answer_sums::sums::of_answer` meets its contract: a result adds its numbers, a refusal its own. Assumes nothing.
 use mathlib.Core.Path.{sym, ap, _∙_}
 use native.Mathlib.Omega.{arith}
-use Rattle.bench_receive.specs.Sums.{answerSum}
-use Rattle.bench_receive.proofs.sums.of_answer.Statement.{statement}
-use Rattle.bench_receive.proofs.sums.of_answer.Tie as tie
+use Rattle.answer_sums.specs.Sums.{answerSum}
+use Rattle.answer_sums.proofs.sums.of_answer.Statement.{statement}
+use Rattle.answer_sums.proofs.sums.of_answer.Tie as tie
 
 enum-known-answer : tie.Need-enum-known-answer
 enum-known-answer c = omega arith
