@@ -24,7 +24,6 @@ use Rattle.order.proofs.Frames.{sent-bit}
 use Rattle.order.proofs.Places.{place-lt}
 use Rattle.sets.specs.Sets.{indicesFit, voicingFits, inRange}
 use Rattle.sets.specs.declared.Indices.{Indices}
-use Rattle.sets.specs.declared.Voicing.{Voicing}
 use Rattle.sets.specs.declared.ParameterSet.{ParameterSet}
 use Rattle.sets.specs.declared.ParameterSet.the-variants.{Unvoiced, Voiced}
 use Rattle.sets.proofs.Ranges.{voicing-ranges}

@@ -98,9 +98,10 @@ pub record SpareSyndrome : Type 0 where
 abbrev pub costly : ℕ → List ℕ
 costly p3 = 3 ∷ 1 ∷ 2 ∷ 50 ∷ 50 ∷ 50 ∷ 50 ∷ p3 ∷ []
 
--- the 54 confidences of a frame: 40 at place 0, 60 at place 7, 200 at every other
+-- the 54 confidences of a frame: 40 at place 0, 0 at place 2, 60 at place 7, 200 at every other. Places 0 and 7 have u0 and u1 of word A, place 2 has u0
+-- of word B; taken by logical number the 0 would go to u2 of word A, and 0101 would be cheapest there
 abbrev pub doubtful : List ℕ
-doubtful = 40 ∷ replicate 6 200 ++ 60 ∷ replicate 46 200
+doubtful = 40 ∷ 200 ∷ 0 ∷ replicate 4 200 ++ 60 ∷ replicate 46 200
 
 -- example 7's frame, which is a repeat without confidences and with equal ones, is mended with these; 53 confidences are refused
 pub record Confidences : Type 0 where

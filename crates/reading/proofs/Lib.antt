@@ -6,4 +6,5 @@ pub mod Erasures
 pub mod SoftAnswers
 pub mod SoftExtent
 pub mod SoftRanges
+pub mod SoftEqual
 pub mod SoftClaims

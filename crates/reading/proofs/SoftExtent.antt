@@ -1,7 +1,7 @@
 -- What is read with confidences depends on logical bits 0 to 52 and on the confidences of the words' bits alone; where the pitch code is not
 -- unvoiced on the bits alone, and then as without confidences.
 -- Assumes nothing.
-use mathlib.Core.Path.{_≡_, refl, sym, ap, _∙_}
+use mathlib.Core.Path.{_≡_, refl, ap, _∙_}
 use mathlib.Core.Bool.{Bool}
 use mathlib.Core.List.{List}
 use Prim.Native.Nat.{ℕ, _+_, _≤_, _<_}

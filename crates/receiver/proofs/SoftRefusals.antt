@@ -3,7 +3,7 @@
 use mathlib.Core.Path.{_≡_, refl, sym, ap, ap₂, _∙_, subst}
 use mathlib.Core.Bool.{Bool, true, false, not}
 use mathlib.Core.List.{List, [], _∷_, _++_}
-use Prim.Native.Nat.{ℕ, zero, suc}
+use Prim.Native.Nat.{ℕ, suc}
 use native.Mathlib.Omega.{arith}
 use lib.Dec.{T, eqb}
 use lib.ListN.{length}
@@ -16,7 +16,7 @@ use Rattle.records.specs.Records.{valid}
 use Rattle.records.specs.declared.Record.{Record}
 use Rattle.receiver.specs.Steps.{step}
 use Rattle.receiver.specs.Receiving.{recordTable}
-use Rattle.receiver.specs.SoftReceiving.{softTable, softRefusal, softUnless, softReceive}
+use Rattle.receiver.specs.SoftReceiving.{softRefusal, softUnless, softReceive}
 use Rattle.receiver.proofs.Refusals.{frame-passes}
 
 module _ (r : Record) (bytes confidences : List ℕ) where

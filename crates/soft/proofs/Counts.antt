@@ -2,12 +2,12 @@
 -- Assumes nothing.
 use mathlib.Core.Path.{_≡_, refl, ap, _∙_}
 use mathlib.Core.Bool.{Bool, true, false}
+use mathlib.Core.List.{[], _∷_}
 use Prim.Native.Nat.{ℕ, _+_}
 use native.Mathlib.Nat.{zero-add}
 use Rattle.bits.specs.Bits.{bitNum, ones, cut}
 use Rattle.bits.proofs.Count.{ones-append}
 use Rattle.bits.proofs.Cut.{cut-append}
-use mathlib.Core.List.{List, [], _∷_}
 
 one-is : (b : Bool) → ones (b ∷ []) ≡ bitNum b
 one-is true = refl

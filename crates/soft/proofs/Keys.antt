@@ -1,7 +1,7 @@
 -- The least key as one number: a cost and the data below it. One code word more changes the least where its number is smaller.
 -- Assumes nothing.
-use mathlib.Core.Path.{_≡_, refl, sym, ap, ap₂, _∙_}
-use mathlib.Core.Bool.{Bool, true, false, cond, _&&_, _||_, or-false, and-false}
+use mathlib.Core.Path.{_≡_, refl, sym, ap, _∙_}
+use mathlib.Core.Bool.{Bool, true, false, cond, _||_, or-false, and-false}
 use mathlib.Core.List.{List, [], _∷_}
 use Prim.Native.Nat.{ℕ, suc, _+_, _*_, _≤_, _<_}
 use native.Mathlib.Omega.{arith}
@@ -9,7 +9,8 @@ use lib.Dec.{eqb, ltb}
 use borrow.Author.Tests.{ltb-true, ltb-false, lt-ltb, le-ltb}
 use Rattle.soft.specs.Least.{precedes, leastBy}
 use Rattle.soft.specs.Prices.{costIn, keyNumber}
-use Rattle.soft.proofs.Least.{least-le, last-decides}
+use Rattle.soft.proofs.Precedes.{last-decides}
+use Rattle.soft.proofs.Least.{least-le}
 
 -- keys of one cost each and the data: the costs decide, where the data of the second are not larger
 pub cost-decides : (x y u v : ℕ) → v ≤ u → precedes (x ∷ u ∷ []) (y ∷ v ∷ []) ≡ ltb x y

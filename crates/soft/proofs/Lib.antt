@@ -1,3 +1,4 @@
+pub mod Precedes
 pub mod Least
 pub mod Weights
 pub mod Splitting

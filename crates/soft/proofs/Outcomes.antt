@@ -1,9 +1,9 @@
 -- What is taken by the prices of a word's code words is what the choice says.
 -- Assumes nothing.
-use mathlib.Core.Path.{_≡_, refl, sym, ap, ap₂, _∙_, subst}
-use mathlib.Core.Bool.{Bool, true, false, cond, _&&_}
+use mathlib.Core.Path.{_≡_, sym, ap, _∙_}
+use mathlib.Core.Bool.{Bool, false, cond, _&&_}
 use mathlib.Core.List.{List, [], _∷_, _++_}
-use Prim.Native.Nat.{ℕ, suc, _+_, _*_, _-_, _/_, _%_, _≤_, _<_}
+use Prim.Native.Nat.{ℕ, _+_, _*_, _-_, _/_, _%_, _≤_, _<_}
 use native.Mathlib.Nat.{zero-add}
 use native.Mathlib.Omega.{arith}
 use native.Mathlib.Decide.{ℕ-discrete}
@@ -16,7 +16,6 @@ use Rattle.bits.specs.Bits.{ones, cut}
 use Rattle.bits.proofs.Count.{ones-le}
 use Rattle.bits.proofs.Cut.{cut-length, cut-at, cut-ext}
 use Rattle.hamming.specs.Word.{dataBits}
-use Rattle.hamming.specs.declared.Decoded.{Decoded}
 use Rattle.hamming.specs.declared.Decoded.the-variants.{Read, Erased}
 use Rattle.soft.specs.Least.{leastBy}
 use Rattle.soft.specs.Choice.{codeWords, differing, cost, key, chosen, choose}

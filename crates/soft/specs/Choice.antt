@@ -1,7 +1,6 @@
 -- Document 02, T-05: soft decisions. The data of a received word are chosen by the confidences of its bits, from 0 to 255 each.
 -- A word is given by its length n as in `hamming`: eight bits (A), six (B), seven (C and D). q has the confidences of its n bits, w what came.
-use Prim.Native.Nat.{ℕ, _+_, _^_, _≤_, _<_}
-use mathlib.Core.Path.{_≡_}
+use Prim.Native.Nat.{ℕ, _+_, _^_}
 use mathlib.Core.Bool.{Bool, true, false, cond, _&&_}
 use mathlib.Core.List.{List, [], _∷_}
 use lib.Dec.{eqb, leb}

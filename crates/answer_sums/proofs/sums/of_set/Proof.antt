@@ -1,5 +1,5 @@
 -- `answer_sums::sums::of_set` meets its contract: each arm adds what its calls give. Assumes nothing.
-use mathlib.Core.Path.{_≡_, sym, ap, ap₂, _∙_}
+use mathlib.Core.Path.{sym, ap, ap₂, _∙_}
 use Prim.Native.Nat.{_+_}
 use native.Mathlib.Omega.{arith}
 use Rattle.answer_sums.specs.Sums.{setSum}

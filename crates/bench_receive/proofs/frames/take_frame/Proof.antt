@@ -1,5 +1,5 @@
 -- `bench_receive::frames::take_frame` meets its contract: the receiver takes frame k, and its answer is added. Assumes nothing.
-use mathlib.Core.Path.{_≡_, ap, _∙_}
+use mathlib.Core.Path.{ap, _∙_}
 use Prim.Native.Nat.{_+_}
 use native.Mathlib.Omega.{arith}
 use Rattle.receiver.proofs.Frames.{answer-is, next-is}

@@ -1,7 +1,7 @@
 -- `soft::prices::prices` meets its contract: after u turns the first u prices stand in front. Assumes nothing.
 use mathlib.Core.Path.{_≡_, refl, sym, ap, ap₂, _∙_, subst⁻¹}
-use mathlib.Core.List.{List, _++_, map}
-use Prim.Native.Nat.{ℕ, _+_, _-_, _^_, _≤_, _<_}
+use mathlib.Core.List.{List, _++_}
+use Prim.Native.Nat.{ℕ, _+_, _-_, _≤_, _<_}
 use native.Mathlib.Nat.{zero-add, lt-of-lt-of-le}
 use native.Mathlib.Omega.{arith}
 use lib.Bits.{bitXor}
@@ -11,7 +11,7 @@ use Rattle.bits.specs.Bits.{bits, cut}
 use Rattle.bits.proofs.Cut.{cut-length, cut-at, cut-ext}
 use Rattle.bits.proofs.Digits.{bits-length}
 use Rattle.bits.proofs.Front.{front-more, front-all}
-use Rattle.hamming.specs.Word.{lengthOf, checkBits, dataBits, dataOf}
+use Rattle.hamming.specs.Word.{lengthOf}
 use Rattle.hamming.proofs.Lengths.{length-least, length-most}
 use Rattle.soft.specs.Choice.{codeWords}
 use Rattle.soft.specs.Prices.{priceOf}
