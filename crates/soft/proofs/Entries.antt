@@ -11,14 +11,14 @@ use lib.Bits.{bitXor, xor-lt}
 use lib.ListN.{length, getD, take, drop, length-map, length-drop}
 use lib.Pow.{pow-mono}
 use lib.Seq.{length-take-le}
-use Rattle.bits.specs.Bits.{value, bits}
+use Rattle.bits.specs.Bits.{bits}
 use Rattle.bits.proofs.Value.{value-lt-at}
 use Rattle.bits.proofs.Digits.{bits-length}
 use Rattle.hamming.specs.Word.{checkBits, dataBits, parityOf, dataOf}
 use Rattle.hamming.proofs.Lengths.{lengths-at}
 use Rattle.hamming.proofs.Words.{split-length, check-le, parity-length}
 use Rattle.soft.specs.Choice.{weigh, codeWords}
-use Rattle.soft.specs.Prices.{price, SumsOf, priceOf}
+use Rattle.soft.specs.Prices.{price, SumsOf, priceOf, parityNumber, entryPrice, EntryFits}
 use Rattle.soft.proofs.Splitting.{price-splits}
 
 -- a sum at a number of k bits, where there are k prices
@@ -27,14 +27,6 @@ sum-at k q sums h s e b =
     let size : length (map price q) ≡ k = length-map q price ∙ h in
     let x = s e (subst (λ (j : ℕ). e < 2 ^ j) (sym size) b) in
     (x .0 ∙ ap (λ (j : ℕ). weigh (map price q) (bits j e)) size, x .1)
-
--- the parity that is sent with data u, as a number
-abbrev pub parityNumber : ℕ → ℕ → ℕ
-parityNumber n u = value (parityOf n (bits (dataBits n) u))
-
--- what is added for data u, where data x and parity y came
-abbrev pub entry : (n x y : ℕ) (of-data of-parity : List ℕ) → ℕ → ℕ
-entry n x y of-data of-parity u = getD of-data (bitXor x u) 0 + getD of-parity (bitXor y (parityNumber n u)) 0
 
 module _ (n : ℕ) (l : 6 ≤ n) (m : n ≤ 8) where
   -- at most four of a word's bits are data
@@ -52,23 +44,20 @@ module _ (n : ℕ) (l : 6 ≤ n) (m : n ≤ 8) where
 
   -- what came, its data x and its parity y
   module _ (x y : ℕ) (hx : x < codeWords n) (hy : y < 2 ^ checkBits n) where
-    -- the entries are below 16
-    pub data-index : (u : ℕ) → u < codeWords n → bitXor x u < codeWords n
+    data-index : (u : ℕ) → u < codeWords n → bitXor x u < codeWords n
     data-index u h = xor-lt (dataBits n) x u hx h
 
-    pub parity-index : (u : ℕ) → bitXor y (parityNumber n u) < 2 ^ checkBits n
+    parity-index : (u : ℕ) → bitXor y (parityNumber n u) < 2 ^ checkBits n
     parity-index u = xor-lt (checkBits n) y (parityNumber n u) hy (parity-lt u)
 
-    pub parity-index-lt : (u : ℕ) → bitXor y (parityNumber n u) < 16
-    parity-index-lt u = lt-of-lt-of-le (parity-index u) (pow-mono (check-le n l m))
-
-    module _ (of-data of-parity : List ℕ) where
-      -- both together are the price
-      pub entry-is : (q : List ℕ) (w : List Bool) → length q ≡ n → length w ≡ n → bits (dataBits n) x ≡ dataOf n w → bits (checkBits n) y ≡ drop (dataBits n) w
-          → SumsOf (map price (take (dataBits n) q)) of-data → SumsOf (map price (drop (dataBits n) q)) of-parity
-          → (u : ℕ) → u < codeWords n → (entry n x y of-data of-parity u ≡ priceOf n q w u) × (getD of-data (bitXor x u) 0 ≤ 16324) × (getD of-parity (bitXor y (parityNumber n u)) 0 ≤ 16324)
-      entry-is q w hq hw ex ey sd sp u h =
-          let size : length (drop (dataBits n) q) ≡ checkBits n = length-drop (dataBits n) q ∙ omega (arith, split-length n l m) in
-          let d = sum-at (dataBits n) (take (dataBits n) q) of-data (length-take-le (dataBits n) q (omega arith)) sd (bitXor x u) (data-index u h) in
-          let p = sum-at (checkBits n) (drop (dataBits n) q) of-parity size sp (bitXor y (parityNumber n u)) (parity-index u) in
-          (ap₂ _+_ (d .0) (p .0) ∙ sym (price-splits n l m q w hq hw u x y (parityNumber n u) ex ey refl), d .1, p .1)
+    -- both sums together are the price, and there are such
+    pub entry-is : (ds ps q : List ℕ) (w : List Bool) → length q ≡ n → length w ≡ n → bits (dataBits n) x ≡ dataOf n w
+        → bits (checkBits n) y ≡ drop (dataBits n) w → SumsOf (map price (take (dataBits n) q)) ds → SumsOf (map price (drop (dataBits n) q)) ps
+        → (u : ℕ) → u < codeWords n → (entryPrice n x y ds ps u ≡ priceOf n q w u) × EntryFits n x y ds ps u
+    entry-is ds ps q w hq hw ex ey sd sp u h =
+        let size : length (drop (dataBits n) q) ≡ checkBits n = length-drop (dataBits n) q ∙ omega (arith, split-length n l m) in
+        let d = sum-at (dataBits n) (take (dataBits n) q) ds (length-take-le (dataBits n) q (omega arith)) sd (bitXor x u) (data-index u h) in
+        let p = sum-at (checkBits n) (drop (dataBits n) q) ps size sp (bitXor y (parityNumber n u)) (parity-index u) in (
+          ap₂ _+_ (d .0) (p .0) ∙ sym (price-splits n l m q w hq hw u x y (parityNumber n u) ex ey refl),
+          (lt-of-lt-of-le (data-index u h) codeWords-le, lt-of-lt-of-le (parity-index u) (pow-mono (check-le n l m)), d .1, p .1),
+        )

@@ -9,7 +9,7 @@ ghost use lib.ListN.{take, drop};
 ghost use Rattle.bits.specs.Bits.{bits};
 ghost use Rattle.hamming.specs.Word.{lengthOf, checkBits, dataBits, dataOf};
 ghost use Rattle.soft.specs.Choice.{codeWords};
-ghost use Rattle.soft.specs.Prices.{price, SumsOf, pricesOf, PricesFit};
+ghost use Rattle.soft.specs.Prices.{price, SumsOf, entryPrice, EntryFits, pricesOf, PricesFit};
 
 // What came of a word, and how many code words it has.
 struct Came {
@@ -102,6 +102,16 @@ fn parts_of(length: WordLength, word: u8) -> Came
     }
 }
 
+// The price of the code word of data u: of the sums over data bits, ds, and over parity bits, ps, those of the bits that differ
+// from what came.
+fn price_at(length: WordLength, came: Came, ds: &[u16; 16], ps: &[u16; 16], u: u8) -> u16
+    requires { ⌜ EntryFits (lengthOf length) (came .data) (came .parity) (now ds) (now ps) u ⌝ }
+    ensures { λ r. ⌜ r ≡ entryPrice (lengthOf length) (came .data) (came .parity) (now (ds .entry)) (now (ps .entry)) u ⌝ }
+{
+    let parity = came.parity ^ parity_of(length, u);
+    ds[(came.data ^ u) as usize] + ps[parity as usize]
+}
+
 // The prices of the code words of the word in the low bits of a number, by their data, and past them numbers that no price reaches.
 pub(crate) fn prices(length: WordLength, word: u8, q: [u8; 8]) -> [u16; 16]
     ensures prices { λ r. ⌜ r ≡ pricesOf (lengthOf length) (take (lengthOf length) q) (bits (lengthOf length) word) ⌝ }
@@ -112,9 +122,7 @@ pub(crate) fn prices(length: WordLength, word: u8, q: [u8; 8]) -> [u16; 16]
     let came = parts_of(length, word);
     let mut prices = [DEAREST; 16];
     for u in 0..came.count {
-        let data = came.data ^ u as u8;
-        let parity = came.parity ^ parity_of(length, u as u8);
-        prices[u] = of_data[data as usize] + of_parity[parity as usize];
+        prices[u] = price_at(length, came, &of_data, &of_parity, u as u8);
     }
     prices
 }
