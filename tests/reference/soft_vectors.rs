@@ -304,7 +304,7 @@ fn refusals() -> Vec<Vector> {
 }
 
 /// Words with their confidences: length, word, confidences.
-const WORDS: [(usize, u8, [u8; 8]); 18] = [
+const WORDS: [(usize, u8, [u8; 8]); 20] = [
     // A of 1011 as sent: sums of 512 and 1,024; all 0; another code word as cheap.
     (8, 0b1011_0100, [128; 8]),
     (8, 0b1011_0100, [0; 8]),
@@ -330,6 +330,9 @@ const WORDS: [(usize, u8, [u8; 8]); 18] = [
     (7, 0b0_1110_110, [2, 9, 9, 9, 1, 1, 9, 0]),
     (7, 0b1_0110_000, [2, 9, 9, 9, 1, 1, 9, 0]),
     (7, 0b0_0101_100, [9, 1, 2, 1, 9, 9, 2, 0]),
+    // The same first two at the highest confidences: 255 against 254 and 1.
+    (7, 0b0_1110_110, [255, 255, 255, 255, 254, 1, 255, 0]),
+    (7, 0b0_0110_000, [255, 255, 255, 255, 254, 1, 255, 0]),
 ];
 
 /// Logical bits of two places of each word and of one of the pitch code.

@@ -94,7 +94,7 @@ pub record SpareSyndrome : Type 0 where
 
 -- document 02, T-05: word A of data 1011 came with u0 and u1 flipped, which is as far from three other code words. Where u0 and u1 cost 3 and 1, u2 and
 -- p3 decide: as much as these erase, more leave 1011, less give 0101. Word B of data 010 came with its parity flipped: at equal confidences three
--- code words cost 2, and 000 wins; at confidences of 0 in the parity it stands
+-- code words cost 2, and 000 wins; at confidences of 0 in the parity it stands. A place of 255 costs as much as places of 254 and 1
 abbrev pub costly : ℕ → List ℕ
 costly p3 = 3 ∷ 1 ∷ 2 ∷ 50 ∷ 50 ∷ 50 ∷ 50 ∷ p3 ∷ []
 
@@ -110,6 +110,8 @@ pub record Confidences : Type 0 where
   pub cheaper : choose 8 (costly 1) (bits 8 0b01110100) ≡ Read 0b0101 2
   pub smallest : choose 6 (replicate 6 1) (bits 6 0b010010) ≡ Read 0b000 2
   pub stands : choose 6 (1 ∷ 1 ∷ 1 ∷ 0 ∷ 0 ∷ 0 ∷ []) (bits 6 0b010010) ≡ Read 0b010 3
+  pub highest : choose 7 (255 ∷ 255 ∷ 255 ∷ 255 ∷ 254 ∷ 1 ∷ 255 ∷ []) (bits 7 0b1110110) ≡ Read 0b0110 1
+  pub highest-sum : choose 7 (255 ∷ 255 ∷ 255 ∷ 255 ∷ 254 ∷ 1 ∷ 255 ∷ []) (bits 7 0b0110000) ≡ Read 0b0110 2
   pub repeats : softReceive defaultOrder fresh (changed (0 ∷ 7 ∷ [])) (replicate 54 200) .answer ≡ Result (record {
     kind = kind.Repeat;
     set = zeros;

@@ -5,6 +5,7 @@ use mathlib.Core.Bool.{Bool, false, true≢false}
 use mathlib.Core.List.{List}
 use Prim.Native.Nat.{ℕ, _+_}
 use native.Mathlib.Omega.{arith}
+use lib.ListN.{getD}
 use Rattle.bits.specs.Bits.{ones}
 use Rattle.pitch.specs.Pitch.{classOf}
 use Rattle.pitch.specs.declared.PitchClass.the-variants as class
@@ -12,6 +13,7 @@ use Rattle.hamming.specs.Word.{decode}
 use Rattle.hamming.specs.declared.Decoded.{Decoded}
 use Rattle.hamming.specs.declared.Decoded.the-variants as word
 use Rattle.hamming.proofs.Erasures.{isErased, decode-erased}
+use Rattle.order.proofs.Places.{place-back}
 use Rattle.order.specs.Fields.{wordA, wordB, wordC, wordD, pitchBits}
 use Rattle.sets.specs.declared.ParameterSet.the-variants.{Unvoiced}
 use Rattle.soft.specs.Choice.{differing, chosen, choose}
@@ -19,7 +21,7 @@ use Rattle.soft.specs.Claims.{Tied}
 use Rattle.soft.proofs.Claims.{claims}
 use Rattle.reading.specs.Reading.{indicesOf, pitchRepaired, fromWords}
 use Rattle.reading.specs.SoftReading.{softByClass, softRead}
-use Rattle.reading.specs.SoftClaims.{SpareShown, AllEqual, ReadUnvoiced, takenA, takenB, takenC, takenD, placesDiffering, SoftClaims}
+use Rattle.reading.specs.SoftClaims.{SpareShown, AllEqual, ReadUnvoiced, takenA, takenB, takenC, takenD, takenIndices, placesDiffering, SoftClaims, PlaceConfidences}
 use Rattle.reading.specs.declared.Reading.the-variants.{Accepted, Erased}
 use Rattle.reading.proofs.Erasures.{spare-read}
 use Rattle.reading.proofs.SoftExtent.{soft-alone}
@@ -52,7 +54,7 @@ module _ (g : ℕ → Bool) (q : ℕ → ℕ) where
         (claims .outcomes 8 (wordA q) (wordA g) .tied refl t)
 
     -- one
-    single-taken : (Tied 8 (wordA q) (wordA g) → ⊥) → softRead g q ≡ Accepted (Unvoiced (indicesOf g (takenA g q) (takenB g q) (takenC g q) (takenD g q))) (placesDiffering g q)
+    single-taken : (Tied 8 (wordA q) (wordA g) → ⊥) → softRead g q ≡ Accepted (Unvoiced (takenIndices g q)) (placesDiffering g q)
     single-taken s =
         let a = claims .outcomes 8 (wordA q) (wordA g) .single (λ e. s) in
         unvoiced-is ∙ (λ t. fromWords g (a t) (read-b t) (read-c t) (read-d t))
@@ -81,3 +83,7 @@ soft-claims g q = record {
   spare-erased = λ s. spare-read g (s .unvoiced) (s .spare);
   spare-read = spare-unvoiced g q;
 }
+
+-- the place that an order gives a bit is the one at which it names it
+pub place-confidences : PlaceConfidences
+place-confidences ord o confidences t h = ap (λ (p : ℕ). getD confidences p 0) (place-back ord o t h)

@@ -3,17 +3,20 @@
 use Prim.Native.Nat.{ℕ, _+_, _<_}
 use mathlib.Core.Path.{_≡_}
 use mathlib.Core.Bool.{Bool, false}
+use mathlib.Core.List.{List}
+use lib.ListN.{getD}
 use Rattle.bits.specs.Bits.{ones}
 use Rattle.pitch.specs.Pitch.{classOf}
 use Rattle.pitch.specs.declared.PitchClass.the-variants as class
 use Rattle.hamming.specs.Word.{syndrome, spareColumn, erases}
+use Rattle.order.specs.Order.{Order}
 use Rattle.order.specs.Fields.{wordA, wordB, wordC, wordD, pitchBits}
 use Rattle.sets.specs.declared.Indices.{Indices}
 use Rattle.sets.specs.declared.ParameterSet.the-variants.{Unvoiced}
 use Rattle.soft.specs.Choice.{differing, chosen}
 use Rattle.soft.specs.Claims.{Tied}
 use Rattle.reading.specs.Reading.{indicesOf, pitchRepaired, read}
-use Rattle.reading.specs.SoftReading.{softRead}
+use Rattle.reading.specs.SoftReading.{confidenceOf, softRead}
 use Rattle.reading.specs.declared.Reading.the-variants.{Accepted, Erased}
 
 -- where reading with equal confidences differs: an unvoiced pitch code, word A does not erase, and word B shows the spare's syndrome
@@ -47,6 +50,9 @@ module _ (g : ℕ → Bool) (q : ℕ → ℕ) where
   abbrev pub takenD : ℕ
   takenD = chosen 7 (wordD q) (wordD g)
 
+  abbrev pub takenIndices : Indices
+  takenIndices = indicesOf g takenA takenB takenC takenD
+
   abbrev pub placesDiffering : ℕ
   placesDiffering =
       pitchRepaired (pitchBits g) + ones (differing 8 (wordA g) takenA) + ones (differing 6 (wordB g) takenB) + ones (differing 7 (wordC g) takenC)
@@ -59,9 +65,13 @@ module _ (g : ℕ → Bool) (q : ℕ → ℕ) where
     pub tied : classOf (pitchBits g) ≡ class.Unvoiced → Tied 8 (wordA q) (wordA g) → softRead g q ≡ Erased
     -- else the four data taken, and as repaired the word places that differ from the words taken and the pitch's own
     pub taken : classOf (pitchBits g) ≡ class.Unvoiced → (Tied 8 (wordA q) (wordA g) → ⊥)
-        → softRead g q ≡ Accepted (Unvoiced (indicesOf g takenA takenB takenC takenD)) placesDiffering
+        → softRead g q ≡ Accepted (Unvoiced takenIndices) placesDiffering
     -- all confidences equal and above 0: read as without them, except where the spare is shown
     pub equal : (k : ℕ) → AllEqual k q → (SpareShown g → ⊥) → softRead g q ≡ read g
     -- there the old way erases the frame, and this one reads an unvoiced set
     pub spare-erased : SpareShown g → read g ≡ Erased
     pub spare-read : (k : ℕ) → AllEqual k q → SpareShown g → ReadUnvoiced g q
+
+-- in any order of the bits, the bit that stands at a place has the confidence of that place
+abbrev pub PlaceConfidences : Type 0
+PlaceConfidences = (ord : List ℕ) → Order ord → (confidences : List ℕ) (t : ℕ) → t < 54 → confidenceOf ord confidences (getD ord t 0) ≡ getD confidences t 0

@@ -70,6 +70,8 @@ module _ (ord : List ℕ) (r : Record) (bytes : List ℕ) where
   pub soft-received : SoftClaims ord r bytes
   soft-received = record {
     alone = λ h confidences size. alike confidences size (soft-claims (logicalBit ord bytes) (confidenceOf ord confidences) .alone h);
+    tied = λ confidences e u t. soft-taken r bytes confidences ord e ∙ ap (step r (logicalBit ord bytes 53)) (soft-claims (logicalBit ord bytes) (confidenceOf ord confidences) .tied u t);
+    taken = λ confidences e u s. soft-taken r bytes confidences ord e ∙ ap (step r (logicalBit ord bytes 53)) (soft-claims (logicalBit ord bytes) (confidenceOf ord confidences) .taken u s);
     equal = λ o k h s. alike (replicate 54 k) (length-replicate 54 k) (soft-claims (logicalBit ord bytes) (confidenceOf ord (replicate 54 k)) .equal k (all-equal ord o k h) s);
     spare-repeated = λ s e. receive-taken ord r bytes e ∙ ap (step r (logicalBit ord bytes 53)) (soft-claims (logicalBit ord bytes) (confidenceOf ord []) .spare-erased s);
     spare-accepted = spare-accepted;

@@ -1,4 +1,5 @@
--- The order of keys: the first numbers decide, or the rest; it is strict, and where keys end with a number the rest before it decides for the smaller.
+-- The order of keys: the first numbers decide, or where they are equal the rest. It is strict. Where both keys end with their own number and the larger
+-- number is asked, what stands before it decides.
 -- Assumes nothing.
 use mathlib.Core.Path.{_≡_, refl, ap, _∙_}
 use mathlib.Core.Logic.{_⊎_, inl, inr}

@@ -14,9 +14,9 @@ module _ (n : ℕ) (q : List ℕ) (w : List Bool) where
   -- the data that are taken are those of a cheapest code word
   pub record Cheapest : Type 0 where
     pub taken : chosen n q w < codeWords n
-    -- every other code word of the word costs at least as much
+    -- none of its code words costs less
     pub least : (u : ℕ) → u < codeWords n → cost n q w (chosen n q w) ≤ cost n q w u
-    -- of those that cost the same the smallest data win
+    -- and of those that cost no more none has smaller data
     pub first : (u : ℕ) → u < codeWords n → cost n q w u ≡ cost n q w (chosen n q w) → chosen n q w ≤ u
 
   -- another code word costs as much
@@ -28,7 +28,7 @@ module _ (n : ℕ) (q : List ℕ) (w : List Bool) where
 
   -- what becomes of the word
   pub record Outcomes : Type 0 where
-    -- two or more cheapest erase word A
+    -- a tie erases word A
     pub tied : n ≡ 8 → Tied → choose n q w ≡ Erased
     -- any other word is read: the data that are taken, and as repaired the sent places that differ from their code word
     pub single : (n ≡ 8 → Tied → ⊥) → choose n q w ≡ Read (chosen n q w) (ones (differing n w (chosen n q w)))
@@ -39,7 +39,7 @@ pub record Claims : Type 0 where
   pub outcomes : (n : ℕ) (q : List ℕ) (w : List Bool) → Outcomes n q w
   -- so word B is always read, also where it shows the spare's syndrome
   pub spare : (q : List ℕ) (w : List Bool) → choose 6 q w ≡ Read (chosen 6 q w) (ones (differing 6 w (chosen 6 q w)))
-  -- with all confidences equal and above 0 the outcome is that without them, except where word B shows the spare's syndrome
+  -- equal confidences, none of them 0, leave the outcome as it is without them; the spare's syndrome in word B is the exception
   pub equal : (n : ℕ) → 6 ≤ n → n ≤ 8 → (k : ℕ) → 0 < k → (w : List Bool) → length w ≡ n → (n ≡ 6 → syndrome 6 w ≡ spareColumn → ⊥)
       → choose n (replicate n k) w ≡ decode n w
   -- a word that came as it was sent gives its data back and counts no repair, however unequal the confidences, if all are above 0
