@@ -86,7 +86,7 @@ module _ (q : ℕ → ℕ) (above : (j : ℕ) → j < 28 → 0 < q j) where
     unvoiced-alike (class.Voiced i) = refl
 
   -- the bits of a set are read as without confidences
-  pub set-alike : (set : ParameterSet) (sync : Bool) → T (inRange set) → softRead (logicalOf set sync) q ≡ read (logicalOf set sync)
+  set-alike : (set : ParameterSet) (sync : Bool) → T (inRange set) → softRead (logicalOf set sync) q ≡ read (logicalOf set sync)
   unfolding softRead read words others voicedWords logical
   set-alike (Unvoiced x) sync t = unvoiced-alike x sync (classOf (pitchBits (logicalOf (Unvoiced x) sync)))
   set-alike (Voiced x v) sync t =

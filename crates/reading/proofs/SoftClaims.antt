@@ -1,15 +1,14 @@
 -- What is claimed of reading with confidences, from what is claimed of each word's choice.
 -- Assumes nothing.
-use mathlib.Core.Path.{_≡_, refl, ap, _∙_}
+use mathlib.Core.Path.{_≡_, refl, sym, ap, _∙_}
 use mathlib.Core.Bool.{Bool, false, true≢false}
 use mathlib.Core.List.{List}
-use Prim.Native.Nat.{ℕ, _+_}
+use Prim.Native.Nat.{ℕ}
 use native.Mathlib.Omega.{arith}
 use lib.ListN.{getD}
 use Rattle.bits.specs.Bits.{ones}
 use Rattle.pitch.specs.Pitch.{classOf}
 use Rattle.pitch.specs.declared.PitchClass.the-variants as class
-use Rattle.hamming.specs.Word.{decode}
 use Rattle.hamming.specs.declared.Decoded.{Decoded}
 use Rattle.hamming.specs.declared.Decoded.the-variants as word
 use Rattle.hamming.proofs.Erasures.{isErased, decode-erased}
@@ -19,9 +18,9 @@ use Rattle.sets.specs.declared.ParameterSet.the-variants.{Unvoiced}
 use Rattle.soft.specs.Choice.{differing, chosen, choose}
 use Rattle.soft.specs.Claims.{Tied}
 use Rattle.soft.proofs.Claims.{claims}
-use Rattle.reading.specs.Reading.{indicesOf, pitchRepaired, fromWords}
+use Rattle.reading.specs.Reading.{fromWords}
 use Rattle.reading.specs.SoftReading.{softByClass, softRead}
-use Rattle.reading.specs.SoftClaims.{SpareShown, AllEqual, ReadUnvoiced, takenA, takenB, takenC, takenD, takenIndices, placesDiffering, SoftClaims, PlaceConfidences}
+use Rattle.reading.specs.SoftClaims.{SpareShown, AllEqual, takenB, takenC, takenD, takenIndices, placesDiffering, SoftClaims, PlaceConfidences}
 use Rattle.reading.specs.declared.Reading.the-variants.{Accepted, Erased}
 use Rattle.reading.proofs.Erasures.{spare-read}
 use Rattle.reading.proofs.SoftExtent.{soft-alone}
@@ -59,19 +58,11 @@ module _ (g : ℕ → Bool) (q : ℕ → ℕ) where
         let a = claims .outcomes 8 (wordA q) (wordA g) .single (λ e. s) in
         unvoiced-is ∙ (λ t. fromWords g (a t) (read-b t) (read-c t) (read-d t))
 
-  -- where the spare is shown, all four words are read
-  spare-unvoiced : (k : ℕ) → AllEqual k q → SpareShown g → ReadUnvoiced g q
-  spare-unvoiced k all s = go (decode 8 (wordA g)) (equal-a g q k all) (decode-erased 8 (wordA g) ∙ s .kept)
-    where
-      go : (r : Decoded) → choose 8 (wordA q) (wordA g) ≡ r → isErased r ≡ false → ReadUnvoiced g q
-      go (word.Read d j) e h = record {
-        indices = indicesOf g d (takenB g q) (takenC g q) (takenD g q);
-        repaired =
-            pitchRepaired (pitchBits g) + j + ones (differing 6 (wordB g) (takenB g q)) + ones (differing 7 (wordC g) (takenC g q))
-            + ones (differing 7 (wordD g) (takenD g q));
-        read-as = unvoiced-is (s .unvoiced) ∙ (λ t. fromWords g (e t) (read-b t) (read-c t) (read-d t));
-      }
-      go word.Erased e h = absurd (true≢false h)
+  -- where the spare is shown, word A is read without confidences, so there is no tie in it
+  spare-taken : (k : ℕ) → AllEqual k q → SpareShown g → softRead g q ≡ Accepted (Unvoiced (takenIndices g q)) (placesDiffering g q)
+  spare-taken k all s =
+      single-taken (s .unvoiced) (λ t.
+      true≢false (sym (ap isErased (claims .outcomes 8 (wordA q) (wordA g) .tied refl t)) ∙ ap isErased (equal-a g q k all) ∙ decode-erased 8 (wordA g) ∙ s .kept))
 
 -- all of it
 pub soft-claims : (g : ℕ → Bool) (q : ℕ → ℕ) → SoftClaims g q
@@ -81,7 +72,7 @@ soft-claims g q = record {
   taken = single-taken g q;
   equal = equal-read g q;
   spare-erased = λ s. spare-read g (s .unvoiced) (s .spare);
-  spare-read = spare-unvoiced g q;
+  spare-read = spare-taken g q;
 }
 
 -- the place that an order gives a bit is the one at which it names it

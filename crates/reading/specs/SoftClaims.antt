@@ -30,12 +30,6 @@ pub record AllEqual (k : ℕ) (q : ℕ → ℕ) : Type 0 where
   pub above : 0 < k
   pub equal : (j : ℕ) → j < 28 → q j ≡ k
 
--- an unvoiced set with a repaired count
-pub record ReadUnvoiced (g : ℕ → Bool) (q : ℕ → ℕ) : Type 0 where
-  pub indices : Indices
-  pub repaired : ℕ
-  pub read-as : softRead g q ≡ Accepted (Unvoiced indices) repaired
-
 module _ (g : ℕ → Bool) (q : ℕ → ℕ) where
   -- the data taken for each word, and how many of its sent places differ from their code word
   abbrev pub takenA : ℕ
@@ -68,9 +62,9 @@ module _ (g : ℕ → Bool) (q : ℕ → ℕ) where
         → softRead g q ≡ Accepted (Unvoiced takenIndices) placesDiffering
     -- all confidences equal and above 0: read as without them, except where the spare is shown
     pub equal : (k : ℕ) → AllEqual k q → (SpareShown g → ⊥) → softRead g q ≡ read g
-    -- there the old way erases the frame, and this one reads an unvoiced set
+    -- there the old way erases the frame, and this one reads the data taken
     pub spare-erased : SpareShown g → read g ≡ Erased
-    pub spare-read : (k : ℕ) → AllEqual k q → SpareShown g → ReadUnvoiced g q
+    pub spare-read : (k : ℕ) → AllEqual k q → SpareShown g → softRead g q ≡ Accepted (Unvoiced takenIndices) placesDiffering
 
 -- in any order of the bits, the bit that stands at a place has the confidence of that place
 abbrev pub PlaceConfidences : Type 0

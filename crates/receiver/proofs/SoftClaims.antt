@@ -11,7 +11,7 @@ use Rattle.order.specs.Order.{Order, placeOf, logicalBit}
 use Rattle.order.proofs.Places.{place-lt}
 use Rattle.reading.specs.Reading.{read}
 use Rattle.reading.specs.SoftReading.{confidenceOf, softRead}
-use Rattle.reading.specs.SoftClaims.{AllEqual, SpareShown}
+use Rattle.reading.specs.SoftClaims.{AllEqual}
 use Rattle.reading.proofs.SoftClaims.{soft-claims}
 use Rattle.reading.proofs.SoftRanges.{soft-read-fits}
 use Rattle.records.specs.Records.{valid}
@@ -19,13 +19,13 @@ use Rattle.records.specs.declared.Record.{Record}
 use Rattle.receiver.specs.Steps.{step}
 use Rattle.receiver.specs.Receiving.{receiveRefusal, receiveUnless, receive}
 use Rattle.receiver.specs.SoftReceiving.{softRefusal, softUnless, softReceive}
-use Rattle.receiver.specs.SoftClaims.{AcceptsUnvoiced, SoftClaims}
+use Rattle.receiver.specs.SoftClaims.{SoftClaims}
 use Rattle.receiver.proofs.Refusals.{receive-taken}
 use Rattle.receiver.proofs.Results.{step-valid}
 use Rattle.receiver.proofs.SoftRefusals.{soft-taken}
 
 -- 54 confidences refuse nothing that is not refused without them
-pub soft-refusal-is : (r : Record) (bytes confidences : List ℕ) → length confidences ≡ 54 → softRefusal r bytes confidences ≡ receiveRefusal r bytes
+soft-refusal-is : (r : Record) (bytes confidences : List ℕ) → length confidences ≡ 54 → softRefusal r bytes confidences ≡ receiveRefusal r bytes
 soft-refusal-is r bytes confidences h = simp (eq-eqb (length confidences) 54 h)
 
 -- in any order the confidences of 54 equal ones are those
@@ -53,19 +53,6 @@ module _ (ord : List ℕ) (r : Record) (bytes : List ℕ) where
           (soft-read-fits (logicalBit ord bytes) (confidenceOf ord confidences))
       go (suc n) = v
 
-  -- where the spare is shown
-  spare-accepted : Order ord → (k : ℕ) → 0 < k → SpareShown (logicalBit ord bytes) → receiveRefusal r bytes ≡ 0 → AcceptsUnvoiced ord r bytes (replicate 54 k)
-  spare-accepted o k h s e =
-      let q = confidenceOf ord (replicate 54 k) in
-      let x = soft-claims (logicalBit ord bytes) q .spare-read k (all-equal ord o k h) s in
-      record {
-        indices = x .indices;
-        repaired = x .repaired;
-        received =
-            soft-taken r bytes (replicate 54 k) ord (soft-refusal-is r bytes (replicate 54 k) (length-replicate 54 k) ∙ e)
-            ∙ ap (step r (logicalBit ord bytes 53)) (x .read-as);
-      }
-
   -- all of it
   pub soft-received : SoftClaims ord r bytes
   soft-received = record {
@@ -74,6 +61,8 @@ module _ (ord : List ℕ) (r : Record) (bytes : List ℕ) where
     taken = λ confidences e u s. soft-taken r bytes confidences ord e ∙ ap (step r (logicalBit ord bytes 53)) (soft-claims (logicalBit ord bytes) (confidenceOf ord confidences) .taken u s);
     equal = λ o k h s. alike (replicate 54 k) (length-replicate 54 k) (soft-claims (logicalBit ord bytes) (confidenceOf ord (replicate 54 k)) .equal k (all-equal ord o k h) s);
     spare-repeated = λ s e. receive-taken ord r bytes e ∙ ap (step r (logicalBit ord bytes 53)) (soft-claims (logicalBit ord bytes) (confidenceOf ord []) .spare-erased s);
-    spare-accepted = spare-accepted;
+    spare-accepted = λ o k h s e.
+        soft-taken r bytes (replicate 54 k) ord (soft-refusal-is r bytes (replicate 54 k) (length-replicate 54 k) ∙ e)
+        ∙ ap (step r (logicalBit ord bytes 53)) (soft-claims (logicalBit ord bytes) (confidenceOf ord (replicate 54 k)) .spare-read k (all-equal ord o k h) s);
     stays-valid = valid-stays;
   }

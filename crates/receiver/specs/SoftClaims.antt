@@ -9,7 +9,6 @@ use Rattle.pitch.specs.Pitch.{classOf}
 use Rattle.pitch.specs.declared.PitchClass.the-variants as class
 use Rattle.order.specs.Order.{Order, logicalBit}
 use Rattle.order.specs.Fields.{wordA, pitchBits, syncBit}
-use Rattle.sets.specs.declared.Indices.{Indices}
 use Rattle.sets.specs.declared.ParameterSet.the-variants.{Unvoiced}
 use Rattle.soft.specs.Claims.{Tied}
 use Rattle.reading.specs.SoftReading.{confidenceOf}
@@ -21,12 +20,6 @@ use Rattle.receiver.specs.Receiving.{receiveRefusal, receive}
 use Rattle.receiver.specs.SoftReceiving.{softRefusal, softReceive}
 
 module _ (ord : List ℕ) (r : Record) (bytes : List ℕ) where
-  -- with these confidences the frame is accepted as an unvoiced one
-  pub record AcceptsUnvoiced (confidences : List ℕ) : Type 0 where
-    pub indices : Indices
-    pub repaired : ℕ
-    pub received : softReceive ord r bytes confidences ≡ accepted r (syncBit (logicalBit ord bytes)) (Unvoiced indices) repaired
-
   pub record SoftClaims : Type 0 where
     -- under a voiced or an erased pitch code any 54 confidences give the result and the record of the old way
     pub alone : (classOf (pitchBits (logicalBit ord bytes)) ≡ class.Unvoiced → ⊥) → (confidences : List ℕ) → length confidences ≡ 54
@@ -44,6 +37,9 @@ module _ (ord : List ℕ) (r : Record) (bytes : List ℕ) where
     pub equal : Order ord → (k : ℕ) → 0 < k → (SpareShown (logicalBit ord bytes) → ⊥) → softReceive ord r bytes (replicate 54 k) ≡ receive ord r bytes
     -- there, where the frame and the record are not refused, the old way makes a repeat and this one accepts
     pub spare-repeated : SpareShown (logicalBit ord bytes) → receiveRefusal r bytes ≡ 0 → receive ord r bytes ≡ repeated r (syncBit (logicalBit ord bytes))
-    pub spare-accepted : Order ord → (k : ℕ) → 0 < k → SpareShown (logicalBit ord bytes) → receiveRefusal r bytes ≡ 0 → AcceptsUnvoiced (replicate 54 k)
+    pub spare-accepted : Order ord → (k : ℕ) → 0 < k → SpareShown (logicalBit ord bytes) → receiveRefusal r bytes ≡ 0
+        → softReceive ord r bytes (replicate 54 k)
+        ≡ accepted r (syncBit (logicalBit ord bytes)) (Unvoiced (takenIndices (logicalBit ord bytes) (confidenceOf ord (replicate 54 k))))
+        (placesDiffering (logicalBit ord bytes) (confidenceOf ord (replicate 54 k)))
     -- a valid record stays valid
     pub stays-valid : T (valid r) → (confidences : List ℕ) → T (valid (softReceive ord r bytes confidences .next))

@@ -3,7 +3,7 @@
 use mathlib.Core.Path.{_≡_, refl, sym, ap, ap₂, _∙_}
 use mathlib.Core.Bool.{Bool, true, false, not, cond, _&&_, _||_}
 use mathlib.Core.List.{List, [], _∷_}
-use Prim.Native.Nat.{ℕ, zero, suc, _*_, _≤_, _<_}
+use Prim.Native.Nat.{ℕ, _*_, _≤_, _<_}
 use native.Mathlib.Nat.{mul-le-mul-left, mul-lt-mul-of-pos-left, eq-of-mul-eq-mul-left}
 use native.Mathlib.Omega.{arith}
 use lib.Dec.{T, eqb, leb, ltb}
@@ -19,15 +19,8 @@ use Rattle.hamming.proofs.Repairs.{sameRead, sameRead-eq}
 use Rattle.soft.specs.Least.{precedes, leastBy}
 use Rattle.soft.specs.Choice.{codeWords, weigh, differing, cost, key, chosen, cheapest, choose}
 use Rattle.soft.proofs.Weights.{weigh-equal}
+use Rattle.soft.proofs.Least.{least-alike}
 use Rattle.soft.proofs.Splitting.{differing-length}
-
--- keys that compare alike have the same least
-least-alike : (key other : ℕ → List ℕ) → ((u v : ℕ) → precedes (key u) (key v) ≡ precedes (other u) (other v)) → (n : ℕ) → leastBy key n ≡ leastBy other n
-unfolding leastBy
-least-alike key other e zero = refl
-least-alike key other e (suc n) =
-    let b : leastBy key n ≡ leastBy other n = least-alike key other e n in
-    ap₂ (λ (t : Bool) (v : ℕ). cond t n v) (e n (leastBy key n) ∙ ap (λ (v : ℕ). precedes (other n) (other v)) b) b
 
 -- multiples by a number above 0 compare as the numbers do
 module _ (k : ℕ) (h : 0 < k) where
@@ -50,7 +43,7 @@ module _ (k : ℕ) (h : 0 < k) where
     -- the data that are taken
     chosen-same : chosen n q w ≡ chosen n r w
     unfolding chosen
-    chosen-same = least-alike (key n q w) (key n r w) alike (codeWords n)
+    chosen-same = least-alike (key n q w) (key n r w) (codeWords n) (λ u v h k. alike u v)
       where
         alike : (u v : ℕ) → precedes (key n q w u) (key n q w v) ≡ precedes (key n r w u) (key n r w v)
         alike u v =

@@ -1,6 +1,6 @@
 -- The least by a key is one that no other precedes.
 -- Assumes nothing.
-use mathlib.Core.Path.{_≡_, refl, sym, ap, _∙_, subst}
+use mathlib.Core.Path.{_≡_, refl, sym, ap, ap₂, _∙_, subst}
 use mathlib.Core.Bool.{Bool, true, false, cond, true≢false}
 use mathlib.Core.List.{List}
 use Prim.Native.Nat.{ℕ, zero, suc, _+_, _≤_, _<_}
@@ -45,22 +45,19 @@ module _ (key : ℕ → List ℕ) where
       go false e (yes f) rest p = true≢false (sym (subst (λ (v : ℕ). precedes (key v) (key (leastBy key n)) ≡ true) f p) ∙ e)
       go false e (no f) rest p = rest (omega arith) p
 
-  -- one that precedes all others is it
-  pub least-only : (n u : ℕ) → u < n → ((v : ℕ) → v < n → (v ≡ u → ⊥) → precedes (key u) (key v) ≡ true) → leastBy key n ≡ u
-  least-only n u h first = go (ℕ-discrete (leastBy key n) u)
-    where
-      go : Dec (leastBy key n ≡ u) → leastBy key n ≡ u
-      go (yes e) = e
-      go (no d) = absurd (least-first n u h (first (leastBy key n) (least-lt n (omega arith)) d))
-
--- keys that are the same have the same least
-pub least-ext : (key other : ℕ → List ℕ) (n : ℕ) → ((u : ℕ) → u < n → key u ≡ other u) → leastBy key n ≡ leastBy other n
+-- keys that compare alike have the same least
+pub least-alike : (key other : ℕ → List ℕ) (n : ℕ) → ((u v : ℕ) → u < n → v < n → precedes (key u) (key v) ≡ precedes (other u) (other v))
+    → leastBy key n ≡ leastBy other n
 unfolding leastBy
-least-ext key other zero e = refl
-least-ext key other (suc n) e =
-    let b : leastBy key n ≡ leastBy other n = least-ext key other n (λ u h. e u (omega arith)) in
-    let there : key (leastBy key n) ≡ other (leastBy other n) = e (leastBy key n) (omega (arith, least-le key n)) ∙ ap other b in
-    λ i. cond (precedes (e n (omega arith) i) (there i)) n (b i)
+least-alike key other zero e = refl
+least-alike key other (suc n) e =
+    let b : leastBy key n ≡ leastBy other n = least-alike key other n (λ u v h k. e u v (omega arith) (omega arith)) in
+    let test = e n (leastBy key n) (omega arith) (omega (arith, least-le key n)) ∙ ap (λ (v : ℕ). precedes (other n) (other v)) b in
+    λ i. cond (test i) n (b i)
+
+-- so have keys that are the same
+pub least-ext : (key other : ℕ → List ℕ) (n : ℕ) → ((u : ℕ) → u < n → key u ≡ other u) → leastBy key n ≡ leastBy other n
+least-ext key other n e = least-alike key other n (λ u v h k. ap₂ precedes (e u h) (e v k))
 
 -- what does not precede it leaves it
 pub least-past : (key : ℕ → List ℕ) (k j : ℕ) → ((u : ℕ) → k ≤ u → u < k + j → precedes (key u) (key (leastBy key k)) ≡ false) → leastBy key (k + j) ≡ leastBy key k

@@ -62,7 +62,7 @@ module _ (n : ℕ) (l : 6 ≤ n) (m : n ≤ 8) (q : List ℕ) (w : List Bool) (h
   cost-past u h k = ap (λ (x : ℕ). x / 16) (past-at (cut (priceOf n q w) 0 (codeWords n)) (codeWords n) u (cut-length (priceOf n q w) 0 (codeWords n)) h k)
 
   -- so the cheapest is the one that is taken
-  pub least-is : leastIn prices ≡ chosen n q w
+  least-is : leastIn prices ≡ chosen n q w
   unfolding chosen
   least-is =
       let k = codeWords n in
