@@ -4,7 +4,7 @@ use hamming::Decoded;
 use hamming::WordLength;
 ghost use mathlib.Core.Path.{_≡_};
 ghost use mathlib.Core.Bool.{cond, _&&_};
-ghost use Prim.Native.Nat.{_+_, _*_, _/_, _≤_, _<_};
+ghost use Prim.Native.Nat.{_+_, _*_, _/_, _%_, _≤_, _<_};
 ghost use lib.Dec.{eqb, ltb, leb};
 ghost use lib.ListN.{take};
 ghost use Rattle.bits.specs.Bits.{bitNum, bits};
@@ -68,6 +68,13 @@ fn erases(length: WordLength, prices: [u16; 16], cost: u16) -> bool
     }
 }
 
+// How many places differ, by a price.
+fn places_in(price: u16) -> u8
+    ensures { λ r. ⌜ r ≡ price % 16 ⌝ }
+{
+    (price % 16) as u8
+}
+
 // The outcome of the word in the low bits of a number, by the confidences of its bits, the first bit's first; those past
 // the word's length play no part.
 pub fn choose(length: WordLength, word: u8, confidences: [u8; 8]) -> Decoded
@@ -79,5 +86,5 @@ pub fn choose(length: WordLength, word: u8, confidences: [u8; 8]) -> Decoded
     if erases(length, prices, key / 16) {
         return Decoded::Erased;
     }
-    Decoded::Read(data as u8, (prices[data as usize] % 16) as u8)
+    Decoded::Read(data as u8, places_in(prices[data as usize]))
 }

@@ -50,22 +50,24 @@ returns c =
 cast-t10 : tie.Need-cast-t10
 cast-t10 c = omega arith
 
-cast-t11 : tie.Need-cast-t11
-cast-t11 c = omega arith
+cast-places-in : tie.Need-cast-places-in
+cast-places-in c = omega arith
 
-mul-t12 : tie.Need-mul-t12
-mul-t12 c = omega arith
+mul-places-in : tie.Need-mul-places-in
+mul-places-in c = omega arith
 
-array-read-t9 : tie.Need-array-read-t9
-array-read-t9 c = omega arith
+array-read-places-in : tie.Need-array-read-places-in
+array-read-places-in c = omega arith
 
-cast-t16 : tie.Need-cast-t16
-cast-t16 c = omega arith
+places-in-requires : tie.Need-places-in-requires
+places-in-requires c κs = tt
 
 returns-2 : tie.Need-returns-2
 returns-2 c =
-    let k = c .before .before .least-key .result in
-    ap (λ (t : Bool). cond t Erased (Read (k % 16) (getD (c .before .before .before .prices .result) (k % 16) 0 % 16))) (sym (c .if1 .left)) ∙ outcome (c .before)
+    let e = c .before in
+    let k = e .before .before .least-key .result in
+    ap (λ (x : ℕ). Read (k % 16) x) (c .places-in .ensures)
+    ∙ ap (λ (t : Bool). cond t Erased (Read (k % 16) (getD (e .before .before .before .prices .result) (k % 16) 0 % 16))) (sym (e .if1 .left)) ∙ outcome (e .before)
 
 pub choose-spec : {M : Type 1} → statement M
 choose-spec =
@@ -76,8 +78,8 @@ choose-spec =
     erases-requires
     returns
     cast-t10
-    cast-t11
-    mul-t12
-    array-read-t9
-    cast-t16
+    cast-places-in
+    mul-places-in
+    array-read-places-in
+    places-in-requires
     returns-2)
