@@ -146,21 +146,29 @@ static inline bool choose(uint64_t bits, unsigned first, unsigned length,
     return only;
 }
 
-/* The kinds of the latest 16 frames, oldest first. */
+/* The kinds of the latest 16 frames, oldest first, and how many of them are repeats. */
 struct kinds {
     bool is_repeat[16];
+    uint8_t repeats;
 };
+
+/* Whether the number of repeats is true. */
+static inline bool kinds_hold(const struct kinds *kinds)
+{
+    int repeats = 0;
+    for (int i = 0; i < 16; i++)
+        repeats += kinds->is_repeat[i];
+    return repeats == kinds->repeats;
+}
 
 /* Puts a kind in as the latest; whether at least half of the 16 are repeats. */
 static inline bool push_kind(struct kinds *kinds, bool is_repeat)
 {
+    kinds->repeats = (uint8_t)(kinds->repeats - kinds->is_repeat[0] + is_repeat);
     for (int i = 0; i < 15; i++)
         kinds->is_repeat[i] = kinds->is_repeat[i + 1];
     kinds->is_repeat[15] = is_repeat;
-    int repeats = 0;
-    for (int i = 0; i < 16; i++)
-        repeats += kinds->is_repeat[i];
-    return repeats >= 8;
+    return kinds->repeats >= 8;
 }
 
 /* Puts a number below 100 at `out` in two digits; the end of them. */

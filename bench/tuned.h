@@ -186,15 +186,22 @@ static inline bool choose(uint64_t bits, unsigned first, unsigned length,
     return true;
 }
 
-/* The kinds of the latest 16 frames: a bit for each, 1 for a repeat, the oldest most significant. */
+/* The kinds of the latest 16 frames: a bit for each, 1 for a repeat, the oldest most significant; and how many are. */
 struct kinds {
-    uint16_t repeats;
+    uint16_t are_repeats;
+    uint8_t repeats;
 };
+
+static inline bool kinds_hold(const struct kinds *kinds)
+{
+    return __builtin_popcount(kinds->are_repeats) == kinds->repeats;
+}
 
 static inline bool push_kind(struct kinds *kinds, bool is_repeat)
 {
-    kinds->repeats = (uint16_t)(kinds->repeats << 1 | is_repeat);
-    return __builtin_popcount(kinds->repeats) >= 8;
+    kinds->repeats = (uint8_t)(kinds->repeats - (kinds->are_repeats >> 15) + is_repeat);
+    kinds->are_repeats = (uint16_t)(kinds->are_repeats << 1 | is_repeat);
+    return kinds->repeats >= 8;
 }
 
 /* The numbers from 0 to 99 in two digits each. */

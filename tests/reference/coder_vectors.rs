@@ -4,8 +4,8 @@ use crate::frames::{self, random_received, random_set};
 use crate::layout::{bits_of_word, put, put_answer, vector_of, word_of, Vector};
 use crate::melp::{self, Content, PitchClass, Set, WordReading};
 use crate::random::Random;
-use crate::set_bytes::{bytes_of, set_of};
-use crate::set_vectors::SETS;
+use crate::set_bytes::bytes_of;
+use crate::set_vectors::sets;
 
 /// What each byte of an output holds before a call.
 pub const HELD: u8 = 165;
@@ -236,8 +236,7 @@ fn flipped_word(set: &Set, flips: &[usize]) -> u64 {
 /// Frames of an unvoiced and of a voiced set with the spare's syndrome in each way; word A without a flip, with one, with two.
 fn spare_frames() -> Vec<Vector> {
     let mut vectors = Vec::new();
-    for bytes in SETS {
-        let set = set_of(&bytes).expect("the bytes of a set");
+    for set in sets() {
         for in_a in [&[][..], &[0], &[0, 1]] {
             let word = |in_b| flipped_word(&set, &[in_a, in_b].concat());
             vectors.extend(frames::SPARE_FLIPS.map(|in_b| reading_vector(word(in_b))));

@@ -1,7 +1,9 @@
-//! Document 01's section "Examples", tried on the independent implementation, and our own for T-02 and T-05; the eighth is
-//! in `spectrum.rs`.
+//! Document 01's section "Examples", tried on the independent implementation, and our own for T-02, T-05 and T-06; the eighth
+//! is in `spectrum.rs`.
 
-use crate::melp::{self, FrameResult, Kind, PitchClass, Refusal, Set, WordReading};
+use crate::frames;
+use crate::melp::{self, FrameResult, Kind, PitchClass, Record, Refusal, Set, WordReading};
+use crate::old_record;
 use crate::soft;
 
 /// The frame of example 6 as the document prints it.
@@ -17,11 +19,7 @@ const EXAMPLE_SET: Set = Set {
 
 /// The frame of example 6 with some places changed.
 fn flipped(places: &[usize]) -> [u8; 7] {
-    let mut frame = EXAMPLE_FRAME;
-    places
-        .iter()
-        .for_each(|place| melp::flip(&mut frame, *place));
-    frame
+    frames::flipped(EXAMPLE_FRAME, places)
 }
 
 /// Example 1: pitch codes.
@@ -152,16 +150,22 @@ fn confident_frame() -> bool {
         && receive(&[], &[200; 53]) == Err(Refusal::Confidences)
 }
 
-/// Mute bits of so many copies of a frame, received from fresh.
-fn mutes(frame: &[u8], count: usize) -> Result<Vec<u8>, Refusal> {
+/// Mute bit and count of repeats after each of some frames, received from fresh.
+fn counts(frames: &[[u8; 7]]) -> Result<Vec<(u8, u8)>, Refusal> {
     let mut record = melp::fresh_record();
-    let mut bits = Vec::new();
-    for _ in 0..count {
+    let mut counts = Vec::new();
+    for frame in frames {
         let (result, next) = melp::receive(&record, frame)?;
-        bits.push(result.mute);
+        counts.push((result.mute, next.repeat_count));
         record = next;
     }
-    Ok(bits)
+    Ok(counts)
+}
+
+/// Mute bits of so many copies of a frame, received from fresh.
+fn mutes(frame: [u8; 7], count: usize) -> Result<Vec<u8>, Refusal> {
+    let counts = counts(&vec![frame; count])?;
+    Ok(counts.iter().map(|(mute, _)| *mute).collect())
 }
 
 /// Example 9: eight erased frames, erased by the pitch code or by word A.
@@ -169,12 +173,36 @@ fn example_9() -> bool {
     let by_pitch = flipped(&[melp::place_of(28), melp::place_of(29)]);
     let by_word = flipped(&[0, 7]);
     let expected = Ok(vec![0, 0, 0, 0, 0, 0, 0, 1]);
-    mutes(&by_pitch, 8) == expected && mutes(&by_word, 8) == expected
+    mutes(by_pitch, 8) == expected && mutes(by_word, 8) == expected
+}
+
+/// The count of repeats (document 02's T-06) over eight erased frames from fresh and sixteen good ones: it rises to 8, stays
+/// while no repeat goes out, and falls to 0.
+fn count_of_repeats() -> bool {
+    let frames = [vec![flipped(&[0, 7]); 8], vec![EXAMPLE_FRAME; 16]].concat();
+    let expected = (1..=8).chain([8; 8]).chain((0..=7).rev());
+    counts(&frames)
+        == Ok(expected
+            .map(|count| (u8::from(count == 8), count))
+            .collect())
+}
+
+/// A wrong count of repeats (document 02's T-06): 4, after 2, 3 and 9.
+fn wrong_count() -> bool {
+    let record = Record {
+        repeat_count: 1,
+        ..melp::fresh_record()
+    };
+    let receive = |bytes: &[u8]| melp::receive(&record, bytes).map(|(_, next)| next);
+    receive(&EXAMPLE_FRAME) == Err(Refusal::Record)
+        && receive(&EXAMPLE_FRAME[1..]) == Err(Refusal::FrameLength)
+        && receive(&[1; 7]) == Err(Refusal::Padding)
+        && soft::receive(&record, &EXAMPLE_FRAME, &[]) == Err(Refusal::Confidences)
 }
 
 /// The first example that fails, if any does.
 pub fn first_failure() -> Option<&'static str> {
-    let examples: [(&str, fn() -> bool); 11] = [
+    let examples: [(&str, fn() -> bool); 14] = [
         ("1", example_1),
         ("2", example_2),
         ("3", example_3),
@@ -186,6 +214,9 @@ pub fn first_failure() -> Option<&'static str> {
         ("of T-02", spare_syndrome),
         ("of T-05, words", chosen_words),
         ("of T-05, a frame", confident_frame),
+        ("of T-06, a count of repeats", count_of_repeats),
+        ("of T-06, a wrong count", wrong_count),
+        ("of T-06, old records", old_record::lists_keep_step),
     ];
     examples
         .iter()

@@ -1,4 +1,4 @@
-//! Random sets, and their frames as a bad channel delivers them.
+//! Random sets, and frames of sets as a bad channel delivers them.
 
 // Each program uses its part.
 #![allow(dead_code)]
@@ -126,6 +126,20 @@ pub fn flips(random: &mut Random, damage: Damage, count: usize) -> Vec<usize> {
 
 // ---- Frames ----
 
+/// A frame with some places changed.
+pub fn flipped(mut frame: [u8; 7], places: &[usize]) -> [u8; 7] {
+    places
+        .iter()
+        .for_each(|place| melp::flip(&mut frame, *place));
+    frame
+}
+
+/// The frame of a set with some logical bits changed, its sync bit 1.
+pub fn frame_with(set: &Set, bits: &[usize]) -> [u8; 7] {
+    let places: Vec<usize> = bits.iter().map(|j| melp::place_of(*j)).collect();
+    flipped(melp::frame_of(set, 1).expect("a set in range"), &places)
+}
+
 /// Any 54 bits.
 pub fn random_bits(random: &mut Random) -> [u8; 7] {
     let mut frame = [0; 7];
@@ -136,12 +150,9 @@ pub fn random_bits(random: &mut Random) -> [u8; 7] {
 
 /// The frame of a set in range after damage.
 pub fn damaged(random: &mut Random, set: &Set, sync: u8, damage: Damage) -> [u8; 7] {
-    let mut frame = melp::frame_of(set, sync).expect("a set in range");
+    let frame = melp::frame_of(set, sync).expect("a set in range");
     let count = random.pick(&[1, 1, 2, 2, 3, 4, 5, 6]);
-    for place in flips(random, damage, count) {
-        melp::flip(&mut frame, place);
-    }
-    frame
+    flipped(frame, &flips(random, damage, count))
 }
 
 /// Set one or both of the last two bits of a frame.

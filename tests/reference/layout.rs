@@ -1,6 +1,6 @@
 //! The bytes of a vector; which byte has what is in README.md.
 
-use crate::melp::{Record, Refusal};
+use crate::melp::{OldRecord, Record, Refusal};
 use crate::set_bytes::bytes_of;
 
 /// One vector.
@@ -32,21 +32,31 @@ pub fn put_answer<T>(
 }
 
 /// Sixteen kinds in two bytes: a bit for each, 1 for a repeat, the oldest most significant.
-pub fn kinds_bytes(repeats: &[bool; 16]) -> [u8; 2] {
+fn kinds_bytes(repeats: &[bool; 16]) -> [u8; 2] {
     let bits = repeats
         .iter()
         .fold(0u16, |bits, r| 2 * bits + u16::from(*r));
     bits.to_be_bytes()
 }
 
-/// A record in fourteen bytes: last set, last G2, and the kinds.
+/// The sixteen kinds of two such bytes, given as one number.
+pub fn kinds_of(bits: u16) -> [bool; 16] {
+    std::array::from_fn(|i| bits >> (15 - i) & 1 == 1)
+}
+
+/// A record of the old kind in fourteen bytes: last set, last G2, and the kinds.
+pub fn old_record_bytes(old: &OldRecord) -> Vec<u8> {
+    let [high, low] = kinds_bytes(&old.repeats);
+    [&bytes_of(&old.last.set)[..], &[old.last.g2, high, low]].concat()
+}
+
+/// A record in fifteen bytes: those of the old kind, and the count of repeats.
 pub fn record_bytes(record: &Record) -> Vec<u8> {
-    let [high, low] = kinds_bytes(&record.repeats);
-    [
-        &bytes_of(&record.last_set)[..],
-        &[record.last_g2, high, low],
-    ]
-    .concat()
+    let old = OldRecord {
+        last: record.last,
+        repeats: record.repeats,
+    };
+    [&old_record_bytes(&old)[..], &[record.repeat_count]].concat()
 }
 
 /// 54 bits by logical number as a number, bit 0 the most significant.

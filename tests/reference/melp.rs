@@ -1,4 +1,5 @@
-//! A second implementation of document 01 up to receiving: slow, plain, section by section.
+//! A second implementation of document 01 up to receiving, with the record of document 02's T-06: slow, plain, section by
+//! section.
 //! Bits are u8 values 0 or 1; lists of bits run most significant first.
 
 // Each program uses its part.
@@ -92,11 +93,26 @@ pub struct FrameResult {
     pub repaired: u8,
 }
 
-/// Receiver record; `repeats` tells which of the latest 16 frames were repeats, oldest first.
+/// Last accepted set, and last accepted G2 (section "Receiver").
+#[derive(Clone, Copy, Debug, PartialEq, Eq)]
+pub struct Last {
+    pub set: Set,
+    pub g2: u8,
+}
+
+/// Receiver record; `repeats` tells which of the latest 16 frames were repeats, oldest first, and `repeat_count` how many
+/// (document 02's T-06).
 #[derive(Clone, Copy, Debug, PartialEq, Eq)]
 pub struct Record {
-    pub last_set: Set,
-    pub last_g2: u8,
+    pub last: Last,
+    pub repeats: [bool; 16],
+    pub repeat_count: u8,
+}
+
+/// Receiver record of the old kind, which has no count (document 02's T-06).
+#[derive(Clone, Copy, Debug, PartialEq, Eq)]
+pub struct OldRecord {
+    pub last: Last,
     pub repeats: [bool; 16],
 }
 
@@ -320,9 +336,14 @@ pub fn sender_takes(set: &Set) -> bool {
     set_in_range(set) && !matches!(set.voicing, Some(Voicing { bandpass: 1, .. }))
 }
 
-/// Whether every field of a receiver record is in range; B = 1 is.
-pub fn record_in_range(record: &Record) -> bool {
-    set_in_range(&record.last_set) && record.last_g2 <= 31
+/// Whether the last set and the last G2 are in range; B = 1 is.
+fn last_in_range(last: &Last) -> bool {
+    set_in_range(&last.set) && last.g2 <= 31
+}
+
+/// Whether number 4 does not refuse a record: every field in range, and the count true.
+pub fn record_is_valid(record: &Record) -> bool {
+    last_in_range(&record.last) && record.repeat_count == count_repeats(&record.repeats)
 }
 
 // ---- Order of the bits (section "Order of the bits") ----
@@ -588,16 +609,16 @@ pub fn read(bytes: &[u8]) -> Result<FrameReading, Refusal> {
 
 /// The record that a receiver starts with.
 pub fn fresh_record() -> Record {
-    let last_set = Set {
+    let set = Set {
         lsf: [0; 4],
         g2: 0,
         g1: 0,
         voicing: None,
     };
     Record {
-        last_set,
-        last_g2: 0,
+        last: Last { set, g2: 0 },
         repeats: [false; 16],
+        repeat_count: 0,
     }
 }
 
@@ -608,73 +629,103 @@ pub fn push_kind(repeats: &[bool; 16], repeat: bool) -> [bool; 16] {
     next
 }
 
-/// Mute bit of the latest 16 kinds.
-pub fn mute_of(repeats: &[bool; 16]) -> u8 {
-    u8::from(repeats.iter().filter(|r| **r).count() >= 8)
+/// How many of the latest 16 kinds are repeats.
+pub fn count_repeats(repeats: &[bool; 16]) -> u8 {
+    repeats.iter().filter(|r| **r).count() as u8
 }
 
-/// Result and next record of an erased frame.
-fn repeat(record: &Record, sync: u8) -> Result<(FrameResult, Record), Refusal> {
-    let last = level(record.last_g2)?;
-    let next = Record {
-        repeats: push_kind(&record.repeats, true),
-        ..*record
-    };
-    let result = FrameResult {
+/// Mute bit of so many repeats among the latest 16.
+pub fn mute_of(repeat_count: u8) -> u8 {
+    u8::from(repeat_count >= 8)
+}
+
+/// Result of an erased frame.
+fn repeat(last: &Last, sync: u8, mute: u8) -> Result<FrameResult, Refusal> {
+    let last_level = level(last.g2)?;
+    Ok(FrameResult {
         kind: Kind::Repeat,
-        set: record.last_set,
-        first_level: last,
-        second_level: last,
-        mute: mute_of(&next.repeats),
+        set: last.set,
+        first_level: last_level,
+        second_level: last_level,
+        mute,
         sync,
         repaired: 0,
-    };
-    Ok((result, next))
+    })
 }
 
-/// Result and next record of an accepted frame.
-fn accept(
-    record: &Record,
-    set: Set,
-    repaired: u8,
-    sync: u8,
-) -> Result<(FrameResult, Record), Refusal> {
-    let repeats = push_kind(&record.repeats, false);
-    let result = FrameResult {
+/// Result of an accepted frame; q is the G2 accepted before.
+fn accept(set: Set, repaired: u8, q: u8, sync: u8, mute: u8) -> Result<FrameResult, Refusal> {
+    Ok(FrameResult {
         kind: if set.voicing.is_some() {
             Kind::Voiced
         } else {
             Kind::Unvoiced
         },
         set,
-        first_level: first_level(set.g2, set.g1, record.last_g2)?,
+        first_level: first_level(set.g2, set.g1, q)?,
         second_level: level(set.g2)?,
-        mute: mute_of(&repeats),
+        mute,
         sync,
         repaired,
-    };
-    Ok((
-        result,
-        Record {
-            last_set: set,
-            last_g2: set.g2,
-            repeats,
-        },
-    ))
+    })
+}
+
+/// Result of a frame as read, by the last set and G2 before it and its mute bit.
+pub fn result_of(last: &Last, frame: &FrameReading, mute: u8) -> Result<FrameResult, Refusal> {
+    match frame.content {
+        Content::Erased => repeat(last, frame.sync, mute),
+        Content::Accepted { set, repaired } => accept(set, repaired, last.g2, frame.sync, mute),
+    }
+}
+
+/// Last set and G2 after a frame: an erased one leaves them.
+pub fn last_after(last: &Last, frame: &FrameReading) -> Last {
+    match frame.content {
+        Content::Erased => *last,
+        Content::Accepted { set, .. } => Last { set, g2: set.g2 },
+    }
+}
+
+/// The latest 16 kinds after a frame.
+pub fn repeats_after(repeats: &[bool; 16], frame: &FrameReading) -> [bool; 16] {
+    push_kind(repeats, frame.content == Content::Erased)
 }
 
 /// Take a frame as read into a record: refuse 4, else the result and the next record.
 pub fn take(record: &Record, frame: &FrameReading) -> Result<(FrameResult, Record), Refusal> {
-    if !record_in_range(record) {
+    if !record_is_valid(record) {
         return Err(Refusal::Record);
     }
-    match frame.content {
-        Content::Erased => repeat(record, frame.sync),
-        Content::Accepted { set, repaired } => accept(record, set, repaired, frame.sync),
-    }
+    let repeats = repeats_after(&record.repeats, frame);
+    let next = Record {
+        last: last_after(&record.last, frame),
+        repeats,
+        repeat_count: count_repeats(&repeats),
+    };
+    let result = result_of(&record.last, frame, mute_of(next.repeat_count))?;
+    Ok((result, next))
 }
 
 /// Receive one frame: refuse 2, 3 or 4, else the result and the next record.
 pub fn receive(record: &Record, bytes: &[u8]) -> Result<(FrameResult, Record), Refusal> {
     take(record, &read(bytes)?)
+}
+
+// ---- Records of the old kind (document 02's T-06) ----
+
+/// Whether number 4 does not refuse a record of the old kind.
+pub fn old_record_is_valid(old: &OldRecord) -> bool {
+    last_in_range(&old.last)
+}
+
+/// Take a record over: the refusal 4, if any, and the record with its true count. Beside a refusal it is made in the same way,
+/// so every later call refuses it too.
+pub fn take_over(old: &OldRecord) -> (Option<Refusal>, Record) {
+    let refusal = (!old_record_is_valid(old)).then_some(Refusal::Record);
+    let record = Record {
+        last: old.last,
+        repeats: old.repeats,
+        repeat_count: count_repeats(&old.repeats),
+    };
+    (refusal, record)
 }

@@ -1,55 +1,14 @@
-//! Vectors of receiving and of a receiver's record.
+//! Vectors of receiving.
 
-use crate::coder_vectors::spoil;
-use crate::frames::{random_received, random_set};
-use crate::layout::{kinds_bytes, put, record_bytes, vector_of, Vector};
+use crate::frames::{frame_with, random_received};
+use crate::layout::{put, record_bytes, vector_of, Vector};
 use crate::melp::{self, FrameResult, Kind, Record, Refusal};
 use crate::random::Random;
+use crate::record_vectors::{any_record, histories, out_of_range, wrong_counts};
 use crate::set_bytes::bytes_of;
+use crate::set_vectors::sets;
 
-/// Which of the latest 16 frames were repeats, often about as many as mute needs.
-fn random_repeats(random: &mut Random) -> [bool; 16] {
-    let count = match random.below(6) {
-        0 => 0,
-        1 => random.between(0, 16),
-        _ => random.between(6, 9),
-    };
-    let all: Vec<usize> = (0..16).collect();
-    let mut repeats = [false; 16];
-    for i in random.some_of(&all, count as usize) {
-        repeats[i] = true;
-    }
-    repeats
-}
-
-/// A record in range, its last G2 often not the one of its last set.
-fn random_record(random: &mut Random) -> Record {
-    if random.once_in(12) {
-        return melp::fresh_record();
-    }
-    let last_set = random_set(random);
-    let other = random.inside(31);
-    Record {
-        last_set,
-        last_g2: random.pick(&[last_set.g2, other]),
-        repeats: random_repeats(random),
-    }
-}
-
-/// A record, once in so many times with a field out of its range.
-pub fn any_record(random: &mut Random, once_in: u64) -> Record {
-    let mut record = random_record(random);
-    if random.once_in(once_in) {
-        if random.once_in(4) {
-            record.last_g2 = random.outside(31);
-        } else {
-            spoil(random, &mut record.last_set);
-        }
-    }
-    record
-}
-
-// ---- Kind 9: receive ----
+// ---- The vector of a call ----
 
 /// A result in nineteen bytes.
 fn result_bytes(result: &FrameResult) -> Vec<u8> {
@@ -77,27 +36,33 @@ pub fn receiving(
 ) -> Vector {
     let mut vector = vector_of(kind);
     put(&mut vector, 1, &record_bytes(record));
-    vector[15] = received.len() as u8;
-    put(&mut vector, 16, received);
+    vector[16] = received.len() as u8;
+    put(&mut vector, 17, received);
     let next = match answer {
         Err(refusal) => {
-            vector[25] = refusal.number();
+            vector[26] = refusal.number();
             *record
         }
         Ok((result, next)) => {
-            put(&mut vector, 26, &result_bytes(&result));
+            put(&mut vector, 27, &result_bytes(&result));
             next
         }
     };
-    put(&mut vector, 45, &record_bytes(&next));
+    put(&mut vector, 46, &record_bytes(&next));
     vector
 }
+
+/// The vector of receiving without confidences, by value (kind 9) or in place (kind 22).
+fn receive_vector(kind: u8, record: &Record, received: &[u8]) -> Vector {
+    receiving(kind, record, received, melp::receive(record, received))
+}
+
+// ---- Kinds 9 and 22: receiving ----
 
 /// A vector of receiving one frame.
 pub fn receive(random: &mut Random) -> Vector {
     let record = any_record(random, 8);
-    let received = random_received(random);
-    receiving(9, &record, &received, melp::receive(&record, &received))
+    receive_vector(9, &record, &random_received(random))
 }
 
 /// A vector of receiving one frame into a record in place: all else is as in kind 9.
@@ -107,28 +72,68 @@ pub fn receive_in_place(random: &mut Random) -> Vector {
     vector
 }
 
-// ---- Kind 14: the record ----
+// ---- All conditions in turn ----
 
-/// A vector of whether a record is valid, whether it mutes, and its kinds after one more.
-pub fn record(random: &mut Random) -> Vector {
-    let record = any_record(random, 2);
-    let repeat = random.once_in(2);
-    let mut vector = vector_of(14);
-    put(&mut vector, 1, &record_bytes(&record));
-    vector[15] = u8::from(repeat);
-    vector[16] = u8::from(melp::record_in_range(&record));
-    vector[17] = melp::mute_of(&record.repeats);
-    let next = melp::push_kind(&record.repeats, repeat);
-    put(&mut vector, 18, &kinds_bytes(&next));
-    vector
+/// A frame that is accepted, and one that is a repeat.
+fn two_frames() -> [[u8; 7]; 2] {
+    let [unvoiced, _] = sets();
+    [frame_with(&unvoiced, &[]), frame_with(&unvoiced, &[28, 29])]
 }
 
-// ---- Kind 15: fresh ----
+/// Valid records, each with a frame that is accepted and with a repeat.
+pub fn counted() -> Vec<(Record, [u8; 7])> {
+    let both = |record: Record| two_frames().map(|frame| (record, frame));
+    histories().map(both).concat()
+}
 
-/// The vector of what a sender and a receiver start with.
-pub fn fresh(_: &mut Random) -> Vector {
-    let mut vector = vector_of(15);
-    vector[1] = melp::FRESH_SYNC;
-    put(&mut vector, 2, &record_bytes(&melp::fresh_record()));
-    vector
+/// Records with a wrong count of repeats, by turns two with an accepted frame and two with a repeat, so that of two kinds in
+/// turn each gets both.
+pub fn miscounted() -> Vec<(Record, [u8; 7])> {
+    let [accepted, repeat] = two_frames();
+    let frames = [accepted, accepted, repeat, repeat];
+    let in_turn = frames.iter().copied().cycle();
+    wrong_counts().iter().copied().zip(in_turn).collect()
+}
+
+/// The bytes of a frame with the faults that 2 and 3 refuse, where asked for: a byte more, a padding bit.
+pub fn faulty_bytes(frame: [u8; 7], length: bool, padding: bool) -> Vec<u8> {
+    let mut bytes = frame.to_vec();
+    bytes[6] |= u8::from(padding);
+    bytes.resize(7 + usize::from(length), 0);
+    bytes
+}
+
+/// Receiving with a wrong count of repeats and a frame that 2 or 3 refuses, or both.
+fn refusals(kind: u8) -> Vec<Vector> {
+    let faults = [(true, false), (false, true), (true, true)];
+    let vector = |((length, padding), (record, frame))| {
+        receive_vector(kind, &record, &faulty_bytes(frame, length, padding))
+    };
+    faults
+        .iter()
+        .copied()
+        .zip(miscounted())
+        .map(vector)
+        .collect()
+}
+
+/// Counts of repeats around mute with either frame and records out of range, by value and in place; wrong counts by value and
+/// in place in turn; and wrong ones with other refusals.
+pub fn conditions() -> Vec<Vector> {
+    let mut vectors = Vec::new();
+    for kind in [9, 22] {
+        let vector = |(record, frame): &(Record, [u8; 7])| receive_vector(kind, record, frame);
+        vectors.extend(counted().iter().map(vector));
+        let [accepted, _] = two_frames();
+        vectors.extend(
+            out_of_range()
+                .iter()
+                .map(|record| vector(&(*record, accepted))),
+        );
+        vectors.extend(refusals(kind));
+    }
+    for (kind, (record, frame)) in [9, 22].iter().cycle().zip(miscounted()) {
+        vectors.push(receive_vector(*kind, &record, &frame));
+    }
+    vectors
 }

@@ -81,6 +81,11 @@ pub const SETS: [[u8; 11]; 2] = [
     [1, 42, 87, 41, 23, 10, 17, 5, 12, 200, 1],
 ];
 
+/// The unvoiced and the voiced set.
+pub fn sets() -> [Set; 2] {
+    SETS.map(|bytes| set_of(&bytes).expect("the bytes of a set"))
+}
+
 /// Of both sets: every length, every first byte up to 3, and 1 in every byte that an unvoiced set lacks.
 pub fn conditions() -> Vec<Vector> {
     let mut vectors = Vec::new();

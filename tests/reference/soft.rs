@@ -93,16 +93,20 @@ pub fn read_bits(logical: &[u8; 54], confidences: &[u8]) -> Result<Content, Refu
     }
 }
 
+/// Read a frame's bytes with confidences: refuse 2, 3 or 9.
+pub fn read(bytes: &[u8], confidences: &[u8]) -> Result<FrameReading, Refusal> {
+    let logical = melp::bits_of_frame(bytes)?;
+    Ok(FrameReading {
+        content: read_bits(&logical, confidences)?,
+        sync: logical[53],
+    })
+}
+
 /// Receive one frame with confidences: refuse 2, 3, 9 or 4, else the result and the next record.
 pub fn receive(
     record: &Record,
     bytes: &[u8],
     confidences: &[u8],
 ) -> Result<(FrameResult, Record), Refusal> {
-    let logical = melp::bits_of_frame(bytes)?;
-    let frame = FrameReading {
-        content: read_bits(&logical, confidences)?,
-        sync: logical[53],
-    };
-    melp::take(record, &frame)
+    melp::take(record, &read(bytes, confidences)?)
 }

@@ -1,12 +1,13 @@
 //! Vectors of receiving with confidences: choosing a word, reading 54 bits, and receiving.
 
-use crate::frames::{self, Damage};
+use crate::frames::{self, flipped, frame_with, Damage};
 use crate::layout::{bits_of_word, put, vector_of, word_of, Vector};
 use crate::melp::{self, Content, Record, Set, WordReading};
 use crate::random::Random;
-use crate::receiver_vectors::{any_record, receiving};
-use crate::set_bytes::{bytes_of, set_of};
-use crate::set_vectors::SETS;
+use crate::receiver_vectors::{counted, faulty_bytes, miscounted, receiving};
+use crate::record_vectors::{any_record, record_with, wrong_counts};
+use crate::set_bytes::bytes_of;
+use crate::set_vectors::sets;
 use crate::soft::{self, CONFIDENCES};
 
 // ---- The vector of a call ----
@@ -89,7 +90,7 @@ fn reading_vector(word: u64, confidences: &Confidences) -> Vector {
 fn receive_vector(kind: u8, record: &Record, bytes: &[u8], confidences: &Confidences) -> Vector {
     let answer = soft::receive(record, bytes, confidences.given());
     let mut vector = receiving(kind, record, bytes, answer);
-    confidences.put(&mut vector, 59);
+    confidences.put(&mut vector, 61);
     vector
 }
 
@@ -194,14 +195,6 @@ fn random_sending(random: &mut Random) -> (Set, Vec<usize>) {
     }
 }
 
-/// A frame with some places changed.
-fn flipped(mut frame: [u8; 7], places: &[usize]) -> [u8; 7] {
-    places
-        .iter()
-        .for_each(|place| melp::flip(&mut frame, *place));
-    frame
-}
-
 /// A frame after the channel, and the places that are changed in it; sometimes any 54 bits.
 fn random_frame(random: &mut Random) -> ([u8; 7], Vec<usize>) {
     if random.once_in(16) {
@@ -259,43 +252,39 @@ pub fn receive_in_place(random: &mut Random) -> Vector {
 
 // ---- All conditions in turn ----
 
-/// The unvoiced and the voiced set that frames of the gate are made of.
-fn sets() -> [Set; 2] {
-    SETS.map(|bytes| set_of(&bytes).expect("the bytes of a set"))
-}
-
-/// The frame of a set with some logical bits changed.
-fn frame_with(set: &Set, bits: &[usize]) -> [u8; 7] {
-    let places: Vec<usize> = bits.iter().map(|j| melp::place_of(*j)).collect();
-    flipped(melp::frame_of(set, 1).expect("a set in range"), &places)
-}
-
-/// Receiving with some of the faults that 2, 3, 9 and 4 refuse.
-fn faulty(kind: u8, set: &Set, faults: [bool; 4]) -> Vector {
-    let [length, padding, number, range] = faults;
-    let mut bytes = frame_with(set, &[]).to_vec();
-    bytes[6] |= u8::from(padding);
-    bytes.resize(7 + usize::from(length), 0);
+/// Receiving with a record and some of the faults that 2, 3 and 9 refuse.
+fn faulty(kind: u8, set: &Set, faults: [bool; 3], record: &Record) -> Vector {
+    let [length, padding, number] = faults;
+    let bytes = faulty_bytes(frame_with(set, &[]), length, padding);
     let count = match (number, set.voicing) {
         (false, _) => CONFIDENCES,
         (true, None) => 53,
         (true, Some(_)) => 55,
     };
-    let mut record = melp::fresh_record();
-    record.last_g2 = 32 * u8::from(range);
-    receive_vector(kind, &record, &bytes, &Confidences::even(200).sized(count))
+    receive_vector(kind, record, &bytes, &Confidences::even(200).sized(count))
 }
 
-/// Every combination of the four refusals, of both sets, one by value and one in place; and other numbers of confidences.
-fn refusals() -> Vec<Vector> {
+/// Every combination of those faults with a record, of both sets, one by value and one in place.
+fn combinations(record: &Record) -> Vec<Vector> {
     let mut vectors = Vec::new();
-    for mask in 0..16u8 {
+    for mask in 0..8u8 {
         let faults = std::array::from_fn(|fault| mask >> fault & 1 == 1);
         let is_odd = (mask.count_ones() % 2) as u8;
         let [unvoiced, voiced] = sets();
-        vectors.push(faulty(32 + is_odd, &unvoiced, faults));
-        vectors.push(faulty(33 - is_odd, &voiced, faults));
+        vectors.push(faulty(32 + is_odd, &unvoiced, faults, record));
+        vectors.push(faulty(33 - is_odd, &voiced, faults, record));
     }
+    vectors
+}
+
+/// Every combination of the four refusals, 4 for a G2 out of range and for a wrong count of repeats; and other numbers of
+/// confidences.
+fn refusals() -> Vec<Vector> {
+    let fresh = melp::fresh_record();
+    let mut out_of_range = fresh;
+    out_of_range.last.g2 = 32;
+    let records = [fresh, out_of_range, wrong_counts()[0]];
+    let mut vectors = records.map(|record| combinations(&record)).concat();
     for (count, set) in [(0, 0), (53, 1), (55, 0), (MOST, 1)] {
         let word = frame_word(&frame_with(&sets()[set], &[]));
         vectors.push(reading_vector(word, &Confidences::even(200).sized(count)));
@@ -352,7 +341,7 @@ fn unvoiced_frames() -> Vec<([u8; 7], Confidences)> {
         let bits: Vec<usize> = (first..=last).collect();
         cases.push((frame_with(&set, &[]), sure_but(&bits)));
     }
-    let zeros = melp::fresh_record().last_set;
+    let zeros = melp::fresh_record().last.set;
     let most = frame_with(&zeros, &(4..=28).collect::<Vec<usize>>());
     cases.push((most, Confidences::even(0).with(&[0, 1, 2, 3], 1)));
     cases
@@ -374,18 +363,27 @@ fn other_frames() -> Vec<([u8; 7], Confidences)> {
     ]
 }
 
-/// Words, frames read, and frames received by value and in place in turn; and every combination of refusals.
+/// Counts of repeats around mute, each with an accepted frame and a repeat, one by value and one in place; and wrong counts.
+fn counts_of_repeats() -> Vec<Vector> {
+    let right = [32, 33, 33, 32].iter().cycle().zip(counted());
+    let wrong = [33, 32].iter().cycle().zip(miscounted());
+    right
+        .chain(wrong)
+        .map(|(kind, (record, frame))| {
+            receive_vector(*kind, &record, &frame, &Confidences::even(200))
+        })
+        .collect()
+}
+
+/// Words, frames read, and frames received by value and in place in turn; every combination of refusals; and records by their
+/// counts of repeats.
 pub fn conditions() -> Vec<Vector> {
-    let mut vectors = refusals();
+    let mut vectors = [refusals(), counts_of_repeats()].concat();
     vectors.extend(
         WORDS.map(|(length, number, confidences)| word_vector(length, number, &confidences)),
     );
     let cases = [unvoiced_frames(), other_frames()].concat();
-    let record = Record {
-        last_set: sets()[1],
-        last_g2: 9,
-        ..melp::fresh_record()
-    };
+    let record = record_with(0);
     for (kind, (frame, confidences)) in [32, 33].iter().cycle().zip(&cases) {
         vectors.push(reading_vector(frame_word(frame), confidences));
         vectors.push(receive_vector(*kind, &record, frame, confidences));
@@ -403,9 +401,9 @@ pub fn bad_vectors() -> Vec<Vector> {
     for kind in [32, 33] {
         let fresh = melp::fresh_record();
         let mut confidences = receive_vector(kind, &fresh, &frame, &many);
-        confidences[59] += 1;
+        confidences[61] += 1;
         let mut bytes = receive_vector(kind, &fresh, &[0; 9], &many);
-        bytes[15] += 1;
+        bytes[16] += 1;
         vectors.extend([confidences, bytes]);
     }
     vectors

@@ -10,8 +10,10 @@ mod frames;
 mod layout;
 mod level_vectors;
 mod melp;
+mod old_record;
 mod random;
 mod receiver_vectors;
+mod record_vectors;
 mod session;
 mod session_vectors;
 mod set_bytes;
@@ -30,7 +32,7 @@ use std::process::ExitCode;
 // ---- Kinds ----
 
 /// A maker of vectors of each kind, from kind 1 on.
-const MAKERS: [fn(&mut Random) -> Vector; 33] = [
+const MAKERS: [fn(&mut Random) -> Vector; 34] = [
     coder_vectors::pack,
     coder_vectors::class,
     coder_vectors::code,
@@ -44,8 +46,8 @@ const MAKERS: [fn(&mut Random) -> Vector; 33] = [
     coder_vectors::bits_of_frame,
     coder_vectors::ranges,
     coder_vectors::reading,
-    receiver_vectors::record,
-    receiver_vectors::fresh,
+    record_vectors::record,
+    record_vectors::fresh,
     codebook_vectors::lsf_row,
     codebook_vectors::magnitude_row,
     codebook_vectors::lsf_values,
@@ -64,10 +66,11 @@ const MAKERS: [fn(&mut Random) -> Vector; 33] = [
     soft_vectors::reading,
     soft_vectors::receive,
     soft_vectors::receive_in_place,
+    record_vectors::take_over,
 ];
 
-/// The first kind of receiving with confidences; the kinds after it are of that too.
-const SOFT: usize = 30;
+/// Kinds of receiving with confidences.
+const SOFT_KINDS: [usize; 4] = [30, 31, 32, 33];
 
 /// One vector of a random kind, a quarter of them of receiving.
 fn random_vector(random: &mut Random) -> Vector {
@@ -86,8 +89,8 @@ fn random_vector(random: &mut Random) -> Vector {
 
 /// One vector of a random kind of receiving with confidences.
 fn soft_vector(random: &mut Random) -> Vector {
-    let maker = random.pick(&MAKERS[SOFT - 1..]);
-    maker(random)
+    let kind = random.pick(&SOFT_KINDS);
+    MAKERS[kind - 1](random)
 }
 
 // ---- Wrong expectations ----
@@ -120,15 +123,15 @@ fn compared(vector: &Vector) -> Vec<usize> {
         6 => (4..=6).collect(),
         7 => (2..=4).collect(),
         8 => (10..=12).collect(),
-        9 | 22 | 32 | 33 if is_given(25) => once(25).chain(45..=58).collect(),
-        9 | 22 | 32 | 33 => (25..=58).collect(),
+        9 | 22 | 32 | 33 if is_given(26) => once(26).chain(46..=60).collect(),
+        9 | 22 | 32 | 33 => (26..=60).collect(),
         10 => (9..=15).collect(),
         11 => (11..=19).collect(),
         12 => (12..=19).collect(),
         13 if is_given(9) => vec![9],
         13 => (9..=21).collect(),
-        14 => (16..=19).collect(),
-        15 => (1..=15).collect(),
+        14 => (16..=17).collect(),
+        15 => (1..=16).collect(),
         16 | 17 if is_given(72) => vec![72, 73],
         16 | 17 => (72..=153).collect(),
         18 | 19 => once(72).chain(74..=169).collect(),
@@ -144,7 +147,8 @@ fn compared(vector: &Vector) -> Vec<usize> {
         31 if is_given(66) => vec![66],
         31 if is_given(67) => vec![66, 67],
         31 => (66..=79).collect(),
-        _ => unreachable!("the makers have 33 kinds"),
+        34 => (15..=30).collect(),
+        _ => unreachable!("the makers have 34 kinds"),
     }
 }
 
@@ -171,6 +175,8 @@ fn good_vectors(random: &mut Random) -> Vec<Vector> {
         vectors.extend((0..7).map(|_| maker(random)));
     }
     vectors.extend(coder_vectors::conditions());
+    vectors.extend(record_vectors::conditions());
+    vectors.extend(receiver_vectors::conditions());
     vectors.extend(codebook_vectors::conditions());
     vectors.extend(text_vectors::conditions());
     vectors.extend(set_vectors::conditions());
@@ -178,6 +184,9 @@ fn good_vectors(random: &mut Random) -> Vec<Vector> {
     vectors.extend(soft_vectors::conditions());
     vectors
 }
+
+/// The kind that hands a record on after a refusal too, so all its bytes are spoilt both times.
+const TAKE_OVER: u8 = 34;
 
 /// Of each kind and of each list of compared bytes one vector as often as it has such bytes, wrong in one of them each;
 /// and one that is wrong in the first byte, mostly the refusal, where that is 0, and one where it is not.
@@ -193,7 +202,8 @@ fn wrong_vectors(random: &mut Random) -> Vec<Vector> {
                 continue;
             }
             let is_new = seen.iter().all(|(others, _)| *others != bytes);
-            let count = if is_new { bytes.len() } else { 1 };
+            let is_whole = is_new || vector[0] == TAKE_OVER;
+            let count = if is_whole { bytes.len() } else { 1 };
             vectors.extend(bytes[..count].iter().map(|at| changed(&vector, *at)));
             seen.push((bytes, refused));
         }
@@ -202,7 +212,7 @@ fn wrong_vectors(random: &mut Random) -> Vec<Vector> {
 }
 
 /// Kinds whose bytes 1 to 11 are a set.
-const SET_KINDS: [usize; 9] = [1, 9, 12, 14, 18, 19, 22, 32, 33];
+const SET_KINDS: [usize; 10] = [1, 9, 12, 14, 18, 19, 22, 32, 33, 34];
 
 /// Vectors with a set in a form that no set has: of a voiced one the first byte is 2, of an unvoiced one the flag is 1.
 fn vectors_of_no_set(random: &mut Random) -> Vec<Vector> {
@@ -222,7 +232,7 @@ fn vectors_of_no_set(random: &mut Random) -> Vec<Vector> {
 
 /// Vectors of no kind, or with an argument that no vector has.
 fn bad_vectors(random: &mut Random) -> Vec<Vector> {
-    let mut vectors = vec![vector_of(0), vector_of(34), vector_of(255)];
+    let mut vectors = vec![vector_of(0), vector_of(35), vector_of(255)];
     let with = |kind: usize, at: usize, bytes: &[u8], random: &mut Random| {
         let mut vector = MAKERS[kind - 1](random);
         layout::put(&mut vector, at, bytes);
@@ -230,8 +240,8 @@ fn bad_vectors(random: &mut Random) -> Vec<Vector> {
     };
     let size = 3202u16.to_be_bytes();
     vectors.push(with(1, 13, &[17], random));
-    vectors.push(with(9, 15, &[10], random));
-    vectors.push(with(22, 15, &[10], random));
+    vectors.push(with(9, 16, &[10], random));
+    vectors.push(with(22, 16, &[10], random));
     vectors.push(with(11, 1, &[10], random));
     vectors.push(with(16, 16, &size, random));
     vectors.push(with(16, 73, &[13], random));

@@ -7,7 +7,12 @@ use Prim.Native.Nat.{ℕ, zero, suc, _+_, _≤_, _<_}
 use native.Mathlib.Nat.{zero-add, suc-add}
 use native.Mathlib.Omega.{arith}
 use lib.ListN.{length}
-use Rattle.bits.specs.Bits.{_⊕_, addOne, ones, cut}
+use Rattle.bits.specs.Bits.{_⊕_, bitNum, addOne, ones, cut}
+
+-- one more is a bit more
+pub add-bit : (b : Bool) (n : ℕ) → addOne b n ≡ bitNum b + n
+add-bit true n = omega arith
+add-bit false n = omega arith
 
 -- no more ones than bits
 pub ones-le : (l : List Bool) → ones l ≤ length l

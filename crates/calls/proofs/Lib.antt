@@ -12,3 +12,5 @@ pub mod Scripts
 pub mod Sessions
 pub mod Demands
 pub mod SoftCalls
+pub mod TakenOver
+pub mod TakenOverHad

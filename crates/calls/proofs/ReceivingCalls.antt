@@ -1,16 +1,15 @@
 -- Receiving calls of the code, by value and in place: what the toolchain reads in the contract of `receiver::receive`, and what the
 -- clauses of `receiver::receive_in_place` say, is the model's step.
 -- Assumes nothing.
-use mathlib.Core.Path.{_≡_, refl, ap, subst⁻¹}
+use mathlib.Core.Path.{refl, subst⁻¹}
 use mathlib.Core.List.{List, []}
 use Prim.Native.Nat.{ℕ}
 use Rattle.order.specs.Order.{defaultOrder}
 use Rattle.receiver.specs.Receiving.{receive}
 use Rattle.records.specs.declared.Record.{Record}
-use Rattle.receiver.specs.declared.Received.{Received}
-use Rattle.calls.specs.Model.{answerOf, outcomeOf, receiveKind}
+use Rattle.calls.specs.Model.{answerOf, receiveKind}
 use Rattle.calls.specs.Calls.{ReceiveCall, ReceiveStep}
-use Rattle.calls.specs.CodeCalls.{receiveCall, InPlaceSays, Way, by-value, in-place, CodeReceivesBy, CodeReceives}
+use Rattle.calls.specs.CodeCalls.{receiveCall, CodeInPlace, InPlaceSays, Way, by-value, in-place, CodeReceivesBy, CodeReceives}
 
 -- there is such a call of each way for every record and frame
 pub receive-had : (way : Way) (given : Record) (bytes : List ℕ)
@@ -29,17 +28,14 @@ receive-had in-place given bytes = (refl, refl)
 pub in-place-says : InPlaceSays
 in-place-says M 𝓤 H κs A m run rec bytes rec′ bytes′ r = (refl, refl)
 
--- the definition's answer and record are the model's step
-receive-step : (given : Record) (bytes : List ℕ) (y : Received) → y ≡ receive defaultOrder given bytes
-    → ReceiveStep defaultOrder (receiveCall given bytes (y .answer) (y .next))
-unfolding receive
-receive-step given bytes y e = ap outcomeOf e
+-- whichever way it is made, a call gives the answer and the record of the definition
+pub receive-owes : (way : Way) (c : ReceiveCall receiveKind) → CodeReceivesBy way c → CodeInPlace c
+receive-owes by-value c k = subst⁻¹ CodeInPlace (k .observed) (λ i. k .contract i .answer, λ i. k .contract i .next)
+receive-owes in-place c k = k
 
 -- so a receiving call of the code does what the model does
-way-step : (way : Way) (c : ReceiveCall receiveKind) → CodeReceivesBy way c → ReceiveStep defaultOrder c
-unfolding receive
-way-step by-value c k = subst⁻¹ (ReceiveStep defaultOrder) (k .observed) (receive-step (k .passed .0) (k .passed .1 .0 .now) (k .gave) (k .contract))
-way-step in-place c h = λ i. record { answer = answerOf (h .0 i); state = h .1 i }
-
 pub code-receives : (c : ReceiveCall receiveKind) → CodeReceives c → ReceiveStep defaultOrder c
-code-receives c k = way-step (k .0) c (k .1)
+unfolding receive
+code-receives c k =
+    let h = receive-owes (k .0) c (k .1) in
+    λ i. record { answer = answerOf (h .0 i); state = h .1 i }

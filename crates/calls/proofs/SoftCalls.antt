@@ -36,8 +36,8 @@ module _ (given : Record) (bytes confidences : List ℕ) where
   abbrev slice : List ℕ → RefT (List ℕ)
   slice l = record { ptr = (0, 0); name = 0; now = l }
 
-  made : (way : Way) → CodeReceivesSoft way call
-  made by-value = record {
+  pub soft-made : (way : Way) → CodeReceivesSoft way call
+  soft-made by-value = record {
     κs = ([], ([], tt));
     passed = (given, (slice bytes, (slice confidences, tt)));
     gave = found;
@@ -45,13 +45,13 @@ module _ (given : Record) (bytes confidences : List ℕ) where
     contract = refl;
     observed = refl;
   }
-  made in-place = (refl, refl)
+  soft-made in-place = (refl, refl)
 
   pub soft-had : (way : Way) → SoftHad way given bytes confidences
-  soft-had way = record { call = call; made = made way; frame-is = refl; confidences-are = refl; given-is = refl }
+  soft-had way = record { call = call; made = soft-made way; frame-is = refl; confidences-are = refl; given-is = refl }
 
 -- whichever way it is made, a call gives the answer and the record of the definition
-soft-owes : (way : Way) (d : SoftCall) → CodeReceivesSoft way d → CodeReceivesSoft in-place d
+pub soft-owes : (way : Way) (d : SoftCall) → CodeReceivesSoft way d → CodeReceivesSoft in-place d
 soft-owes by-value d m = subst⁻¹ (CodeReceivesSoft in-place) (m .observed) (λ i. m .contract i .answer, λ i. m .contract i .next)
 soft-owes in-place d m = m
 

@@ -7,3 +7,5 @@ pub mod Script
 pub mod CodeCalls
 pub mod Demands
 pub mod SoftCalls
+pub mod AnyCalls
+pub mod TakenOver

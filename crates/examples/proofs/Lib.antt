@@ -1,3 +1,4 @@
 pub mod Mute
 pub mod Examples
 pub mod WorkedExamples
+pub mod RepeatCounts

@@ -10,14 +10,15 @@ use Rattle.pitch.specs.Pitch.{index, classOf}
 use Rattle.hamming.specs.Word.{fixOf, decode}
 use Rattle.order.specs.Order.{placeOf, orderBy, defaultOrder, bitAt, logicalBit, through}
 use Rattle.reading.specs.Reading.{read}
-use Rattle.records.specs.Records.{repeatedKind, fresh, valid, pushed, muted}
+use Rattle.records.specs.Records.{repeatedKind, repeatsIn, fresh, valid, muted}
+use Rattle.receiver.specs.Next.{pushed, afterRepeat}
 use Rattle.receiver.specs.Steps.{repeated, step}
 use Rattle.receiver.specs.Receiving.{receive}
 use Rattle.records.specs.declared.FrameKind.{FrameKind}
 use Rattle.records.specs.declared.Record.{Record}
 use Rattle.receiver.specs.declared.Received.{Received}
 use Rattle.receiver.proofs.Refusals.{not-refused, receive-taken}
-use Rattle.records.proofs.Validity.{fresh-valid}
+use Rattle.records.proofs.Validity.{fresh-valid, counted-valid, valid-ranges}
 use Rattle.calls.specs.Model.{outcomes, answerOf, receiveModel, receiveKind}
 use Rattle.bits.specs.Lists.{Every}
 use Rattle.examples.specs.Examples.{Erases, muteIn, Mutes}
@@ -25,7 +26,7 @@ use Rattle.examples.specs.Examples.{Erases, muteIn, Mutes}
 -- mute after each of n repeats
 abbrev mutesFrom : List FrameKind → ℕ → List Bool
 mutesFrom kinds zero = []
-mutesFrom kinds (suc n) = muted (pushed kinds repeatedKind) ∷ mutesFrom (pushed kinds repeatedKind) n
+mutesFrom kinds (suc n) = muted (repeatsIn (pushed kinds repeatedKind)) ∷ mutesFrom (pushed kinds repeatedKind) n
 
 -- an erased frame is a repeat
 erased-repeats : (r : Record) (bytes : List ℕ) → T (valid r) → Erases bytes → receive defaultOrder r bytes ≡ repeated r (logicalBit defaultOrder bytes 53)
@@ -41,7 +42,7 @@ erased-mutes (b ∷ bs) r v h =
     let here = ap (λ (y : Received). muteIn (answerOf (y .answer))) e in
     let rest = ap (λ (y : Received). map (λ o. muteIn (o .answer)) (outcomes (receiveModel receiveKind defaultOrder) (y .next) bs)) e in
     ap₂ (λ (m : Bool) (ms : List Bool). m ∷ ms) here
-    (rest ∙ erased-mutes bs (record { last = r .last; g2 = r .g2; kinds = pushed (r .kinds) repeatedKind }) v (h .1))
+    (rest ∙ erased-mutes bs (afterRepeat r) (counted-valid (r .last) (r .g2) (pushed (r .kinds) repeatedKind) (valid-ranges r v)) (h .1))
 
 pub mutes : Mutes
 unfolding fresh index classOf fixOf decode placeOf orderBy defaultOrder bitAt through read

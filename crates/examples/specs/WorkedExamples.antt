@@ -49,7 +49,7 @@ pub record VoicedSet : Type 0 where
 
 -- a record whose last set has another G2 than its last G2
 abbrev pub kept : ℕ → Record
-kept g2 = record { last = voiced 2; g2 = g2; kinds = replicate 16 acceptedKind }
+kept g2 = record { last = voiced 2; g2 = g2; kinds = replicate 16 acceptedKind; repeats = 0 }
 
 -- a repeat there, by example 7's frame: the last set with its own G2, at the level of the last G2, which is 6282 for G2 = 11
 pub record Repeat : Type 0 where

@@ -65,7 +65,7 @@ module _ (r : Record) (bytes : List ℕ) where
       ap (λ (k : ℕ). record { answer = Refused k; next = r }) (x .2) ∙ owes (suc (x .0)) (frame-refused r bytes (x .0) (x .1))
 
   module _ (n : ℕ) (e : bitsAnswer bytes ≡ taking.Bits n) where
-    -- a record out of range
+    -- a record that is not valid
     pub record-owes : valid r ≡ false → record { answer = Refused 4; next = r } ≡ receive defaultOrder r bytes
     record-owes v = owes 4 (record-refused r bytes (bits-taken bytes n e .0) v)
 

@@ -1,3 +1,4 @@
+pub mod Pushed
 pub mod Results
 pub mod Refusals
 pub mod Sync
@@ -9,3 +10,4 @@ pub mod SoftRefusals
 pub mod SoftAnswers
 pub mod Values
 pub mod SoftClaims
+pub mod TakenOver

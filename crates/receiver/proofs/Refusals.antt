@@ -30,7 +30,7 @@ frame-passes bytes rest e =
 record-decides : (r : Record) (bytes : List ℕ) (b : Bool) → frameRefusal bytes ≡ 0 → valid r ≡ b → receiveRefusal r bytes ≡ firstRefusal ((not b, 4) ∷ [])
 record-decides r bytes b e v = frame-passes bytes (recordTable r) e ∙ ap (λ (t : Bool). firstRefusal ((not t, 4) ∷ [])) v
 
--- a record out of range is refused
+-- a record that is not valid is refused
 pub record-refused : (r : Record) (bytes : List ℕ) → frameRefusal bytes ≡ 0 → valid r ≡ false → receiveRefusal r bytes ≡ 4
 record-refused r bytes e v = record-decides r bytes false e v
 

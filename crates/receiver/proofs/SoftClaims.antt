@@ -4,7 +4,6 @@ use mathlib.Core.Path.{_≡_, refl, ap, _∙_}
 use mathlib.Core.List.{List, []}
 use Prim.Native.Nat.{ℕ, zero, suc, _<_}
 use native.Mathlib.Omega.{arith}
-use lib.Dec.{T}
 use lib.ListN.{length, replicate, length-replicate, getD-replicate}
 use borrow.Author.Tests.{eq-eqb}
 use Rattle.order.specs.Order.{Order, placeOf, logicalBit}
@@ -13,15 +12,12 @@ use Rattle.reading.specs.Reading.{read}
 use Rattle.reading.specs.SoftReading.{confidenceOf, softRead}
 use Rattle.reading.specs.SoftClaims.{AllEqual}
 use Rattle.reading.proofs.SoftClaims.{soft-claims}
-use Rattle.reading.proofs.SoftRanges.{soft-read-fits}
-use Rattle.records.specs.Records.{valid}
 use Rattle.records.specs.declared.Record.{Record}
 use Rattle.receiver.specs.Steps.{step}
 use Rattle.receiver.specs.Receiving.{receiveRefusal, receiveUnless, receive}
 use Rattle.receiver.specs.SoftReceiving.{softRefusal, softUnless, softReceive}
 use Rattle.receiver.specs.SoftClaims.{SoftClaims}
 use Rattle.receiver.proofs.Refusals.{receive-taken}
-use Rattle.receiver.proofs.Results.{step-valid}
 use Rattle.receiver.proofs.SoftRefusals.{soft-taken}
 
 -- 54 confidences refuse nothing that is not refused without them
@@ -37,21 +33,11 @@ module _ (ord : List ℕ) (r : Record) (bytes : List ℕ) where
   pub alike : (confidences : List ℕ) → length confidences ≡ 54 → softRead (logicalBit ord bytes) (confidenceOf ord confidences) ≡ read (logicalBit ord bytes)
       → softReceive ord r bytes confidences ≡ receive ord r bytes
   unfolding softReceive receive
-  alike confidences h e = ap (λ (n : ℕ). softUnless n ord r bytes confidences) (soft-refusal-is r bytes confidences h) ∙ go (receiveRefusal r bytes)
+  alike confidences h e = ap (λ (n : ℕ). softUnless n r (logicalBit ord bytes) (confidenceOf ord confidences)) (soft-refusal-is r bytes confidences h) ∙ go (receiveRefusal r bytes)
     where
-      go : (n : ℕ) → softUnless n ord r bytes confidences ≡ receiveUnless n ord r bytes
+      go : (n : ℕ) → softUnless n r (logicalBit ord bytes) (confidenceOf ord confidences) ≡ receiveUnless n ord r bytes
       go zero = ap (step r (logicalBit ord bytes 53)) e
       go (suc n) = refl
-
-  -- a valid record stays valid
-  valid-stays : T (valid r) → (confidences : List ℕ) → T (valid (softReceive ord r bytes confidences .next))
-  unfolding softReceive
-  valid-stays v confidences = go (softRefusal r bytes confidences)
-    where
-      go : (n : ℕ) → T (valid (softUnless n ord r bytes confidences .next))
-      go zero = step-valid r (logicalBit ord bytes 53) (softRead (logicalBit ord bytes) (confidenceOf ord confidences)) v
-          (soft-read-fits (logicalBit ord bytes) (confidenceOf ord confidences))
-      go (suc n) = v
 
   -- all of it
   pub soft-received : SoftClaims ord r bytes
@@ -64,5 +50,4 @@ module _ (ord : List ℕ) (r : Record) (bytes : List ℕ) where
     spare-accepted = λ o k h s e.
         soft-taken r bytes (replicate 54 k) ord (soft-refusal-is r bytes (replicate 54 k) (length-replicate 54 k) ∙ e)
         ∙ ap (step r (logicalBit ord bytes 53)) (soft-claims (logicalBit ord bytes) (confidenceOf ord (replicate 54 k)) .spare-read k (all-equal ord o k h) s);
-    stays-valid = valid-stays;
   }

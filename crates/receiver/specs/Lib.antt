@@ -1,6 +1,10 @@
+pub mod Next
 pub mod Steps
 pub mod Receiving
 pub mod SoftReceiving
+pub mod Validity
+pub mod OldReceiving
+pub mod TakenOver
 pub mod Frames
 pub mod Sync
 pub mod SoftClaims

@@ -1,5 +1,5 @@
 -- Document 01, "Receiver" and "Refusals by place": what a receiving call answers and the record it gives, in any order of the bits.
-use Prim.Native.Nat.{ℕ, zero, suc}
+use Prim.Native.Nat.{ℕ}
 use mathlib.Core.Bool.{not}
 use mathlib.Core.List.{List, [], _∷_, _++_}
 use Rattle.bits.specs.Refusals.{Table, firstRefusal}
@@ -7,12 +7,11 @@ use Rattle.order.specs.Order.{logicalBit, frameTable}
 use Rattle.order.specs.Fields.{syncBit}
 use Rattle.reading.specs.Reading.{read}
 use Rattle.records.specs.declared.Record.{Record}
-use Rattle.receiver.specs.declared.ReceiveAnswer.the-variants.{Refused}
 use Rattle.receiver.specs.declared.Received.{Received}
 use Rattle.records.specs.Records.{valid}
-use Rattle.receiver.specs.Steps.{step}
+use Rattle.receiver.specs.Steps.{stepUnless}
 
--- what refuses a record: a field out of its range
+-- what refuses a record
 abbrev pub recordTable : Record → Table
 recordTable r = (not (valid r), 4) ∷ []
 
@@ -24,10 +23,9 @@ receiveTable r bytes = frameTable bytes ++ recordTable r
 abbrev pub receiveRefusal : Record → List ℕ → ℕ
 receiveRefusal r bytes = firstRefusal (receiveTable r bytes)
 
--- not refused: the frame's logical bits are read, and its sync bit goes to the result; refused: the number, and the record stays
+-- the frame's logical bits are read, and its sync bit goes to the result
 abbrev pub receiveUnless : ℕ → List ℕ → Record → List ℕ → Received
-receiveUnless zero ord r bytes = step r (syncBit (logicalBit ord bytes)) (read (logicalBit ord bytes))
-receiveUnless (suc n) ord r bytes = record { answer = Refused (suc n); next = r }
+receiveUnless n ord r bytes = stepUnless n r (syncBit (logicalBit ord bytes)) (read (logicalBit ord bytes))
 
 unfoldable pub receive : List ℕ → Record → List ℕ → Received
 receive ord r bytes = receiveUnless (receiveRefusal r bytes) ord r bytes

@@ -3,7 +3,6 @@
 use Prim.Native.Nat.{ℕ, _<_}
 use mathlib.Core.Path.{_≡_}
 use mathlib.Core.List.{List}
-use lib.Dec.{T}
 use lib.ListN.{length, replicate}
 use Rattle.pitch.specs.Pitch.{classOf}
 use Rattle.pitch.specs.declared.PitchClass.the-variants as class
@@ -13,7 +12,6 @@ use Rattle.sets.specs.declared.ParameterSet.the-variants.{Unvoiced}
 use Rattle.soft.specs.Claims.{Tied}
 use Rattle.reading.specs.SoftReading.{confidenceOf}
 use Rattle.reading.specs.SoftClaims.{SpareShown, takenIndices, placesDiffering}
-use Rattle.records.specs.Records.{valid}
 use Rattle.records.specs.declared.Record.{Record}
 use Rattle.receiver.specs.Steps.{accepted, repeated}
 use Rattle.receiver.specs.Receiving.{receiveRefusal, receive}
@@ -41,5 +39,3 @@ module _ (ord : List ℕ) (r : Record) (bytes : List ℕ) where
         → softReceive ord r bytes (replicate 54 k)
         ≡ accepted r (syncBit (logicalBit ord bytes)) (Unvoiced (takenIndices (logicalBit ord bytes) (confidenceOf ord (replicate 54 k))))
         (placesDiffering (logicalBit ord bytes) (confidenceOf ord (replicate 54 k)))
-    -- a valid record stays valid
-    pub stays-valid : T (valid r) → (confidences : List ℕ) → T (valid (softReceive ord r bytes confidences .next))

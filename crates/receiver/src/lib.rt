@@ -2,9 +2,11 @@
 //
 //   receiving       the calls
 //   soft_receiving  the calls that are given a confidence for each place
-//   steps           what an accepted frame and a repeat yield, and the record they leave
+//   steps           what an accepted frame and a repeat yield
+//   next            the record that they leave
 //   levels          the levels of codes in range
 mod levels;
+mod next;
 mod receiving;
 mod soft_receiving;
 mod steps;

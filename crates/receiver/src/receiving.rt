@@ -23,15 +23,16 @@ pub(crate) fn refuse(rec: Record, n: u8) -> Received
 }
 
 // A frame in the default order: the answer, and the record after it. Refused: 2, not seven bytes; 3, one of the
-// last two bits set; 4, a record with a field out of its range.
+// last two bits set; 4, a record that is not valid.
 pub fn receive(rec: Record, frame: &[u8]) -> Received
     ensures { λ r. ⌜ r ≡ receive defaultOrder rec (now (frame .entry)) ⌝ }
 {
     match logical_bits(frame) {
         BitsAnswer::Refused(n) => refuse(rec, n),
         BitsAnswer::Bits(bits) => {
+            let reading = read(bits);
             if is_valid(rec) {
-                step(rec, bits % 2 == 1, read(bits))
+                step(rec, bits % 2 == 1, reading)
             } else {
                 refuse(rec, 4)
             }

@@ -10,26 +10,34 @@ use reading::read_soft;
 use records::Record;
 use records::is_valid;
 ghost use mathlib.Core.Path.{_≡_};
+ghost use Rattle.bits.specs.Bits.{carried};
 ghost use Rattle.order.specs.Order.{defaultOrder};
-ghost use Rattle.receiver.specs.SoftReceiving.{softReceive};
+ghost use Rattle.receiver.specs.SoftReceiving.{softBits, softReceive};
+
+// The answer and the record after it, by the logical bits of a frame that is not refused and the confidences of its places.
+fn receive_bits(rec: Record, bits: u64, confidences: &[u8]) -> Received
+    ensures { λ r. ⌜ r ≡ softBits rec (carried 54 bits) (now (confidences .entry)) ⌝ }
+{
+    match read_soft(bits, confidences) {
+        ReadAnswer::Refused(n) => refuse(rec, n),
+        ReadAnswer::Read(reading) => {
+            if is_valid(rec) {
+                step(rec, bits % 2 == 1, reading)
+            } else {
+                refuse(rec, 4)
+            }
+        }
+    }
+}
 
 // A frame in the default order and the confidences of its places: the answer, and the record after it. Refused: 2, not seven
-// bytes; 3, one of the last two bits set; 9, other than 54 confidences; 4, a record with a field out of its range.
+// bytes; 3, one of the last two bits set; 9, other than 54 confidences; 4, a record that is not valid.
 pub fn receive_soft(rec: Record, frame: &[u8], confidences: &[u8]) -> Received
     ensures { λ r. ⌜ r ≡ softReceive defaultOrder rec (now (frame .entry)) (now (confidences .entry)) ⌝ }
 {
     match logical_bits(frame) {
         BitsAnswer::Refused(n) => refuse(rec, n),
-        BitsAnswer::Bits(bits) => match read_soft(bits, confidences) {
-            ReadAnswer::Refused(n) => refuse(rec, n),
-            ReadAnswer::Read(reading) => {
-                if is_valid(rec) {
-                    step(rec, bits % 2 == 1, reading)
-                } else {
-                    refuse(rec, 4)
-                }
-            }
-        },
+        BitsAnswer::Bits(bits) => receive_bits(rec, bits, confidences),
     }
 }
 

@@ -1,14 +1,14 @@
-// What an accepted frame and a repeat yield, and the record they leave.
+// What an accepted frame and a repeat yield.
 use crate::FrameResult;
 use crate::Kind;
 use crate::ReceiveAnswer;
 use crate::Received;
 use crate::levels::first_level_of;
 use crate::levels::level_of;
+use crate::next::after_accepted;
+use crate::next::after_repeat;
 use reading::Reading;
 use records::Record;
-use records::after_accepted;
-use records::after_repeat;
 use records::is_muted;
 use sets::ParameterSet;
 use sets::indices_of;
@@ -36,14 +36,13 @@ fn accept(rec: Record, sync: bool, set: ParameterSet, repaired: u8) -> Received
 {
     let x = indices_of(set);
     let next = after_accepted(rec, set);
-    let kinds = next.kinds;
     Received {
         answer: ReceiveAnswer::Result(FrameResult {
             kind: kind_of(set),
             set,
             first: first_level_of(x.g2, x.g1, rec.g2),
             second: level_of(x.g2),
-            mute: is_muted(kinds),
+            mute: is_muted(next.repeats),
             sync,
             repaired,
         }),
@@ -59,14 +58,13 @@ fn repeat(rec: Record, sync: bool) -> Received
     let last = rec.last;
     let level = level_of(rec.g2);
     let next = after_repeat(rec);
-    let kinds = next.kinds;
     Received {
         answer: ReceiveAnswer::Result(FrameResult {
             kind: Kind::Repeat,
             set: last,
             first: level,
             second: level,
-            mute: is_muted(kinds),
+            mute: is_muted(next.repeats),
             sync,
             repaired: 0,
         }),

@@ -2,6 +2,7 @@
 use crate::choosing;
 use crate::codebooks::codebook_of;
 use crate::frames;
+use crate::keeping;
 use crate::packing;
 use crate::parameters;
 use crate::receiving;
@@ -23,7 +24,8 @@ fn call_agrees(r: &[u8; 256], kind: u8, set: ParameterSet) -> bool {
     match kind {
         1 => packing::pack_agrees(r, set),
         12 => parameters::ranges_agree(r, set),
-        14 => receiving::history_agrees(r, set),
+        14 => keeping::tests_agree(r, set),
+        34 => keeping::taken_over_agrees(r, set),
         _ => receiving::receive_agrees(r, kind, set),
     }
 }
@@ -76,12 +78,12 @@ fn ranged_agrees(r: &[u8; 256], kind: u8) -> bool {
 pub(crate) fn agrees(r: &[u8; 256]) -> bool {
     let kind = byte(r, 0);
     match kind {
-        1 | 9 | 12 | 14 | 22 | 32 | 33 => set_call_agrees(r, kind),
+        1 | 9 | 12 | 14 | 22 | 32 | 33 | 34 => set_call_agrees(r, kind),
         8 => choosing::choice_agrees(r),
         10 => frames::frame_agrees(r),
         11 => frames::logical_agrees(r),
         13 => frames::reading_agrees(r),
-        15 => receiving::fresh_agrees(r),
+        15 => keeping::fresh_agrees(r),
         23 => parameters::reading_agrees(r),
         24 => parameters::writing_agrees(r),
         25 | 26 => sessions::step_agrees(r, kind),

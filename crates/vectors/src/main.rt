@@ -10,7 +10,8 @@
 //   parameters     sets: their ranges and their bytes
 //   frames         the 54 bits of a frame, and what a frame is read as
 //   soft_words     words and frames read by confidences
-//   receiving      receiving, and a receiver's record
+//   keeping        a receiver's record
+//   receiving      receiving
 //   in_place       receiving into a record in place, with confidences and without
 //   codebooks      the codebook of a vector, by a rule
 //   rows           rows of a codebook
@@ -27,6 +28,7 @@ mod coder;
 mod digits;
 mod frames;
 mod in_place;
+mod keeping;
 mod packing;
 mod parameters;
 mod receiving;

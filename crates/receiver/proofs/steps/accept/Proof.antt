@@ -12,7 +12,7 @@ indices-of-requires : tie.Need-indices-of-requires
 indices-of-requires c κs = tt
 
 after-accepted-requires : tie.Need-after-accepted-requires
-after-accepted-requires c κs = tt
+after-accepted-requires c κs = c .before .pre .0
 
 kind-of-requires : tie.Need-kind-of-requires
 kind-of-requires c κs = tt
@@ -23,13 +23,13 @@ ranges c = subst⁻¹ IndexRanges (c .indices-of .ensures) (set-ranges (c .befor
 
 first-level-of-requires : tie.Need-first-level-of-requires
 first-level-of-requires c κs =
-    let x = c .before .before .before in
+    let x = c .before .before in
     let s = x .before in
     let r = ranges x in
     (omega (arith, r .g2), omega (arith, r .g1), omega (arith, valid-g2 (s .args .rec) (T-true _ (s .pre .0))))
 
 level-of-requires : tie.Need-level-of-requires
-level-of-requires c κs = ranges (c .before .before .before .before) .g2
+level-of-requires c κs = ranges (c .before .before .before) .g2
 
 is-muted-requires : tie.Need-is-muted-requires
 is-muted-requires c κs = tt
@@ -38,7 +38,7 @@ returns : tie.Need-returns
 unfolding accepted
 returns c =
     let first = c .before .before in
-    let next = first .before .before .before in
+    let next = first .before .before in
     simp (
       c .is-muted .ensures,
       c .before .level-of .ensures,

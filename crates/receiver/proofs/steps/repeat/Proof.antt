@@ -9,7 +9,7 @@ level-of-requires : tie.Need-level-of-requires
 level-of-requires c κs = valid-g2 (c .args .rec) (T-true _ (c .pre))
 
 after-repeat-requires : tie.Need-after-repeat-requires
-after-repeat-requires c κs = tt
+after-repeat-requires c κs = c .before .pre
 
 is-muted-requires : tie.Need-is-muted-requires
 is-muted-requires c κs = tt
@@ -17,7 +17,7 @@ is-muted-requires c κs = tt
 returns : tie.Need-returns
 unfolding repeated
 returns c =
-    let next = c .before .before in
+    let next = c .before in
     simp (c .is-muted .ensures, next .after-repeat .ensures, next .before .level-of .ensures)
 
 pub repeat-spec : {M : Type 1} → statement M

@@ -1,15 +1,15 @@
 -- `records::state::is_valid` meets its contract: it is the two tests. Assumes nothing.
-use mathlib.Core.Path.{ap}
-use mathlib.Core.Bool.{Bool, _&&_}
-use lib.Dec.{ltb}
 use Rattle.records.proofs.state.is_valid.Statement.{statement}
 use Rattle.records.proofs.state.is_valid.Tie as tie
 
-is-in-range-requires : tie.Need-is-in-range-requires
-is-in-range-requires c κs = tt
+in-ranges-requires : tie.Need-in-ranges-requires
+in-ranges-requires c κs = tt
+
+count-repeats-requires : tie.Need-count-repeats-requires
+count-repeats-requires c κs = tt
 
 returns : tie.Need-returns
-returns c = ap (λ (b : Bool). b && ltb (c .before .before .args .rec .g2) 32) (c .before .is-in-range .ensures)
+returns c = simp (c .before .count-repeats .ensures, c .before .before .in-ranges .ensures)
 
 pub is-valid-spec : {M : Type 1} → statement M
-is-valid-spec = tie.close (tie.spec is-in-range-requires returns)
+is-valid-spec = tie.close (tie.spec in-ranges-requires count-repeats-requires returns)
