@@ -153,7 +153,7 @@ struct kinds {
 };
 
 /* Whether the number of repeats is true. */
-static inline bool kinds_hold(const struct kinds *kinds)
+static inline bool repeats_true(const struct kinds *kinds)
 {
     int repeats = 0;
     for (int i = 0; i < 16; i++)

@@ -147,7 +147,7 @@ static inline enum refusal check(const struct record *record, const uint8_t *fra
         return REFUSED_PADDING;
     if (count != FRAME_BITS)
         return REFUSED_CONFIDENCES;
-    if (!set_in_range(&record->last) || record->g2 > 31 || !kinds_hold(&record->kinds))
+    if (!set_in_range(&record->last) || record->g2 > 31 || !repeats_true(&record->kinds))
         return REFUSED_RECORD;
     return NOT_REFUSED;
 }

@@ -192,7 +192,7 @@ struct kinds {
     uint8_t repeats;
 };
 
-static inline bool kinds_hold(const struct kinds *kinds)
+static inline bool repeats_true(const struct kinds *kinds)
 {
     return __builtin_popcount(kinds->are_repeats) == kinds->repeats;
 }

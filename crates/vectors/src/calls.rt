@@ -2,7 +2,6 @@
 use crate::choosing;
 use crate::codebooks::codebook_of;
 use crate::frames;
-use crate::keeping;
 use crate::packing;
 use crate::parameters;
 use crate::receiving;
@@ -10,6 +9,7 @@ use crate::rows;
 use crate::sessions;
 use crate::short;
 use crate::soft_words;
+use crate::state;
 use crate::texts;
 use crate::values;
 use crate::vector::byte;
@@ -24,8 +24,8 @@ fn call_agrees(r: &[u8; 256], kind: u8, set: ParameterSet) -> bool {
     match kind {
         1 => packing::pack_agrees(r, set),
         12 => parameters::ranges_agree(r, set),
-        14 => keeping::tests_agree(r, set),
-        34 => keeping::taken_over_agrees(r, set),
+        14 => state::tests_agree(r, set),
+        34 => state::taken_over_agrees(r, set),
         _ => receiving::receive_agrees(r, kind, set),
     }
 }
@@ -83,7 +83,7 @@ pub(crate) fn agrees(r: &[u8; 256]) -> bool {
         10 => frames::frame_agrees(r),
         11 => frames::logical_agrees(r),
         13 => frames::reading_agrees(r),
-        15 => keeping::fresh_agrees(r),
+        15 => state::fresh_agrees(r),
         23 => parameters::reading_agrees(r),
         24 => parameters::writing_agrees(r),
         25 | 26 => sessions::step_agrees(r, kind),

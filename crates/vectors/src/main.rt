@@ -10,7 +10,7 @@
 //   parameters     sets: their ranges and their bytes
 //   frames         the 54 bits of a frame, and what a frame is read as
 //   soft_words     words and frames read by confidences
-//   keeping        a receiver's record
+//   state          a receiver's record
 //   receiving      receiving
 //   in_place       receiving into a record in place, with confidences and without
 //   codebooks      the codebook of a vector, by a rule
@@ -28,7 +28,6 @@ mod coder;
 mod digits;
 mod frames;
 mod in_place;
-mod keeping;
 mod packing;
 mod parameters;
 mod receiving;
@@ -37,6 +36,7 @@ mod session_texts;
 mod sessions;
 mod short;
 mod soft_words;
+mod state;
 mod text_rule;
 mod texts;
 mod values;

@@ -1,8 +1,8 @@
 // Vectors of receiving.
 use crate::in_place::in_place;
 use crate::in_place::soft_in_place;
-use crate::keeping::record_agrees;
-use crate::keeping::record_of;
+use crate::state::record_agrees;
+use crate::state::record_of;
 use crate::vector::bit;
 use crate::vector::byte;
 use crate::vector::joined;

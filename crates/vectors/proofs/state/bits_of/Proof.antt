@@ -1,8 +1,8 @@
--- `vectors::keeping::bits_of` is safe and ends: i is at most 16. Assumes nothing.
+-- `vectors::state::bits_of` is safe and ends: i is at most 16. Assumes nothing.
 use Prim.Native.Nat.{_≤_, _-_}
 use native.Mathlib.Omega.{arith}
-use Rattle.vectors.proofs.keeping.bits_of.Statement.{statement}
-use Rattle.vectors.proofs.keeping.bits_of.Tie as tie
+use Rattle.vectors.proofs.state.bits_of.Statement.{statement}
+use Rattle.vectors.proofs.state.bits_of.Tie as tie
 
 abbrev Inv-loop : tie.InvT-loop
 Inv-loop before kinds bits₀ i₀ bits i = i ≤ 16

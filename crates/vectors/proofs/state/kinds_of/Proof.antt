@@ -1,11 +1,11 @@
--- `vectors::keeping::kinds_of` is safe and ends: i is at most 16. Assumes nothing.
+-- `vectors::state::kinds_of` is safe and ends: i is at most 16. Assumes nothing.
 use mathlib.Core.Path.{_≡_}
 use Prim.Native.Nat.{_≤_, _-_}
 use lib.ListN.{length}
 use native.Mathlib.Omega.{arith}
 use borrow.Author.Needs.{needs}
-use Rattle.vectors.proofs.keeping.kinds_of.Statement.{statement}
-use Rattle.vectors.proofs.keeping.kinds_of.Tie as tie
+use Rattle.vectors.proofs.state.kinds_of.Statement.{statement}
+use Rattle.vectors.proofs.state.kinds_of.Tie as tie
 
 abbrev Inv-loop : tie.InvT-loop
 Inv-loop bits kinds₀ left₀ i₀ kinds left i = (i ≤ 16) × (length kinds ≡ 16)
