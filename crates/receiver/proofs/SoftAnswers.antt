@@ -3,7 +3,7 @@
 use mathlib.Core.Path.{_≡_, refl, sym, ap, ap₂, _∙_}
 use mathlib.Core.Bool.{Bool, true, false}
 use mathlib.Core.List.{List}
-use Prim.Native.Nat.{ℕ, zero, suc, _%_, _<_}
+use Prim.Native.Nat.{ℕ, _%_, _<_}
 use native.Mathlib.Omega.{arith}
 use lib.Dec.{eqb, lit<}
 use lib.ListN.{length}
@@ -19,7 +19,7 @@ use Rattle.reading.proofs.SoftAnswers.{answer-refused, answer-read}
 use Rattle.reading.proofs.SoftExtent.{soft-ext}
 use Rattle.records.specs.Records.{valid}
 use Rattle.records.specs.declared.Record.{Record}
-use Rattle.receiver.specs.Steps.{step}
+use Rattle.receiver.specs.Steps.{step, stepUnless}
 use Rattle.receiver.specs.SoftReceiving.{restTable, softUnless, softReceive, softBits}
 use Rattle.receiver.specs.declared.ReceiveAnswer.the-variants.{Refused}
 use Rattle.receiver.proofs.Refusals.{frame-passes}
@@ -63,17 +63,10 @@ module _ (r : Record) (bytes confidences : List ℕ) where
   -- any other owes what its bits do
   pub bits-owe : (n : ℕ) → bitsAnswer bytes ≡ taking.Bits n → softBits r (carried 54 n) confidences ≡ softReceive defaultOrder r bytes confidences
   unfolding softReceive
-  bits-owe n e = go (firstRefusal (restTable r confidences)) ∙ ap (λ (m : ℕ). softUnless m r g q) (sym (frame-passes bytes (restTable r confidences) (bits-taken bytes n e .0)))
-    where
-      g : ℕ → Bool
-      g = logicalBit defaultOrder bytes
-
-      q : ℕ → ℕ
-      q = confidenceOf defaultOrder confidences
-
-      same : (j : ℕ) → j < 54 → carried 54 n j ≡ g j
-      same j h = taken-bit bytes n j e h
-
-      go : (m : ℕ) → softUnless m r (carried 54 n) q ≡ softUnless m r g q
-      go zero = ap₂ (λ (s : Bool) (y : Reading). step r s y) (same 53 (lit< tt)) (soft-ext (carried 54 n) g (λ j h. same j (omega arith)) q q (λ j h. refl))
-      go (suc m) = refl
+  bits-owe n e =
+      let g = logicalBit defaultOrder bytes in
+      let q = confidenceOf defaultOrder confidences in
+      let same : (j : ℕ) → j < 54 → carried 54 n j ≡ g j = λ j h. taken-bit bytes n j e h in
+      ap₂ (λ (s : Bool) (y : Reading). stepUnless (firstRefusal (restTable r confidences)) r s y) (same 53 (lit< tt))
+      (soft-ext (carried 54 n) g (λ j h. same j (omega arith)) q q (λ j h. refl))
+      ∙ ap (λ (m : ℕ). softUnless m r g q) (sym (frame-passes bytes (restTable r confidences) (bits-taken bytes n e .0)))

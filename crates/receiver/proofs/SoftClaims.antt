@@ -1,8 +1,8 @@
 -- What is claimed of receiving with confidences beside receiving without: where the bits are read alike, the calls give the same.
 -- Assumes nothing.
-use mathlib.Core.Path.{_≡_, refl, ap, _∙_}
+use mathlib.Core.Path.{_≡_, ap, _∙_}
 use mathlib.Core.List.{List, []}
-use Prim.Native.Nat.{ℕ, zero, suc, _<_}
+use Prim.Native.Nat.{ℕ, _<_}
 use native.Mathlib.Omega.{arith}
 use lib.ListN.{length, replicate, length-replicate, getD-replicate}
 use borrow.Author.Tests.{eq-eqb}
@@ -13,8 +13,8 @@ use Rattle.reading.specs.SoftReading.{confidenceOf, softRead}
 use Rattle.reading.specs.SoftClaims.{AllEqual}
 use Rattle.reading.proofs.SoftClaims.{soft-claims}
 use Rattle.records.specs.declared.Record.{Record}
-use Rattle.receiver.specs.Steps.{step}
-use Rattle.receiver.specs.Receiving.{receiveRefusal, receiveUnless, receive}
+use Rattle.receiver.specs.Steps.{step, stepUnless}
+use Rattle.receiver.specs.Receiving.{receiveRefusal, receive}
 use Rattle.receiver.specs.SoftReceiving.{softRefusal, softUnless, softReceive}
 use Rattle.receiver.specs.SoftClaims.{SoftClaims}
 use Rattle.receiver.proofs.Refusals.{receive-taken}
@@ -33,11 +33,9 @@ module _ (ord : List ℕ) (r : Record) (bytes : List ℕ) where
   pub alike : (confidences : List ℕ) → length confidences ≡ 54 → softRead (logicalBit ord bytes) (confidenceOf ord confidences) ≡ read (logicalBit ord bytes)
       → softReceive ord r bytes confidences ≡ receive ord r bytes
   unfolding softReceive receive
-  alike confidences h e = ap (λ (n : ℕ). softUnless n r (logicalBit ord bytes) (confidenceOf ord confidences)) (soft-refusal-is r bytes confidences h) ∙ go (receiveRefusal r bytes)
-    where
-      go : (n : ℕ) → softUnless n r (logicalBit ord bytes) (confidenceOf ord confidences) ≡ receiveUnless n ord r bytes
-      go zero = ap (step r (logicalBit ord bytes 53)) e
-      go (suc n) = refl
+  alike confidences h e =
+      ap (λ (n : ℕ). softUnless n r (logicalBit ord bytes) (confidenceOf ord confidences)) (soft-refusal-is r bytes confidences h)
+      ∙ ap (stepUnless (receiveRefusal r bytes) r (logicalBit ord bytes 53)) e
 
   -- all of it
   pub soft-received : SoftClaims ord r bytes
