@@ -74,7 +74,7 @@ static char *put_result(char *out, const struct result *result)
 static char *put_frame(char *out, struct record *record, const uint8_t *frame, unsigned *repeats)
 {
     struct result result;
-    enum refusal refusal = receive(record, frame, FRAME_BYTES, &result);
+    enum refusal refusal = receive_default(record, frame, FRAME_BYTES, &result);
     if (refusal != NOT_REFUSED)
         return put_digit(put_word(out, " refused="), refusal);
     *repeats += result.kind == REPEAT;

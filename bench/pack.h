@@ -1,4 +1,5 @@
-/* Packing a parameter set into a frame. Placing its bits comes from plain.h, or where TUNED is set from tuned.h. */
+/* Packing a parameter set into a frame. The order and placing the bits come from plain.h, or where TUNED is set from
+   tuned.h. */
 #ifndef PACK_H
 #define PACK_H
 
@@ -52,10 +53,37 @@ static inline uint64_t set_bits(const struct parameter_set *set, bool sync)
     return bits << 1 | sync;
 }
 
-/* The frame of a set that a sender takes. */
-static inline void pack(const struct parameter_set *set, bool sync, uint8_t *frame)
+/* The frame of a set that a sender takes, in the default order. */
+static inline void pack_default(const struct parameter_set *set, bool sync, uint8_t *frame)
 {
-    place_bits(set_bits(set, sync), frame);
+    place_default(set_bits(set, sync), frame);
+}
+
+/* The same in an order; false where the list is none. */
+static inline bool pack(const struct parameter_set *set, bool sync, const uint8_t *order,
+                        size_t numbers, uint8_t *frame)
+{
+    if (!is_default(order, numbers))
+        return place_by(order, numbers, set_bits(set, sync), frame);
+    pack_default(set, sync, frame);
+    return true;
+}
+
+/* The set in eleven bytes; false where they are not those of a set that a sender takes. */
+static inline bool read_set(const uint8_t *bytes, struct parameter_set *set)
+{
+    set->voiced = bytes[0] == 1;
+    set->pitch = bytes[1];
+    for (int i = 0; i < 4; i++)
+        set->lsf[i] = bytes[2 + i];
+    set->g2 = bytes[6];
+    set->g1 = bytes[7];
+    set->bandpass = bytes[8];
+    set->fourier = bytes[9];
+    set->aperiodic = bytes[10];
+    if (!set->voiced && (bytes[0] | bytes[1] | bytes[8] | bytes[9] | bytes[10]))
+        return false;
+    return set_in_range(set) && !(set->voiced && set->bandpass == 1);
 }
 
 #endif

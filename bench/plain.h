@@ -1,5 +1,5 @@
-/* What plain and tuned C do differently, the plain way: taking and placing bits, pitch code, repair, choice by cost,
-   kinds, two digits. */
+/* What plain and tuned C do differently, the plain way: the order, taking and placing bits, pitch code, repair, choice
+   by cost, kinds, two digits. */
 #ifndef PLAIN_H
 #define PLAIN_H
 
@@ -9,24 +9,76 @@
 #include "melp.h"
 
 /* The place of logical bit j: from the table, or where PRODUCT is set by a product and a remainder. */
-static inline unsigned place_of(unsigned j)
+static inline unsigned place_of(const uint8_t *places, unsigned j)
 {
 #ifdef PRODUCT
+    (void)places;
     return 7 * j % FRAME_BITS;
 #else
-    return PLACE[j];
+    return places[j];
 #endif
 }
 
+/* Whether a list is known to be the default order. Plain C takes that as it takes any other. */
+static inline bool is_default(const uint8_t *order, size_t numbers)
+{
+    (void)order;
+    (void)numbers;
+    return false;
+}
+
+/* Whether a list is an order: 54 numbers, each from 0 to 53 once. */
+static inline bool is_order(const uint8_t *order, size_t numbers)
+{
+    bool seen[FRAME_BITS] = {false};
+    if (numbers != FRAME_BITS)
+        return false;
+    for (int t = 0; t < FRAME_BITS; t++) {
+        if (order[t] >= FRAME_BITS || seen[order[t]])
+            return false;
+        seen[order[t]] = true;
+    }
+    return true;
+}
+
+/* The place of each logical bit in an order. */
+static inline void find_places(const uint8_t *order, uint8_t *places)
+{
+    for (int t = 0; t < FRAME_BITS; t++)
+        places[order[t]] = (uint8_t)t;
+}
+
+/* Bytes that `read_order` needs. */
+enum { MOST_PLACES = FRAME_BITS };
+
+/* Makes of a list what the bits of a frame are taken by, and where confidences are asked for the place of each; false
+   where the list is no order. Plain C needs the places only. */
+static inline bool read_order(const uint8_t *order, size_t numbers, const uint8_t *frame,
+                              const uint8_t *confidences, uint8_t *places)
+{
+    (void)frame;
+    (void)confidences;
+    if (!is_order(order, numbers))
+        return false;
+    find_places(order, places);
+    return true;
+}
+
 /* The logical bits of a frame, bit 0 the most significant of 54, each from its place. */
-static inline uint64_t logical_bits(const uint8_t *frame)
+static inline uint64_t logical_bits(const uint8_t *frame, const uint8_t *places)
 {
     uint64_t bits = 0;
     for (unsigned j = 0; j < FRAME_BITS; j++) {
-        unsigned place = place_of(j);
+        unsigned place = place_of(places, j);
         bits = bits << 1 | (frame[place / 8] >> (7 - place % 8) & 1);
     }
     return bits;
+}
+
+/* The same in the default order. */
+static inline uint64_t default_bits(const uint8_t *frame)
+{
+    return logical_bits(frame, PLACE);
 }
 
 /* Flips the bit at a place. */
@@ -36,12 +88,29 @@ static inline void flip(uint8_t *frame, unsigned place)
 }
 
 /* The frame of logical bits, bit 0 the most significant of 54, each to its place. */
-static inline void place_bits(uint64_t bits, uint8_t *frame)
+static inline void place_bits(uint64_t bits, const uint8_t *places, uint8_t *frame)
 {
     memset(frame, 0, FRAME_BYTES);
     for (unsigned j = 0; j < FRAME_BITS; j++)
         if (bits >> (FRAME_BITS - 1 - j) & 1)
-            flip(frame, place_of(j));
+            flip(frame, place_of(places, j));
+}
+
+/* The same in the default order. */
+static inline void place_default(uint64_t bits, uint8_t *frame)
+{
+    place_bits(bits, PLACE, frame);
+}
+
+/* The same in an order; false where the list is none. */
+static inline bool place_by(const uint8_t *order, size_t numbers, uint64_t bits, uint8_t *frame)
+{
+    uint8_t places[FRAME_BITS];
+    if (!is_order(order, numbers))
+        return false;
+    find_places(order, places);
+    place_bits(bits, places, frame);
+    return true;
 }
 
 /* Of each pitch code how many smaller ones have at least three ones: its index where it is voiced. */
@@ -114,25 +183,25 @@ static inline unsigned code_word(unsigned data, unsigned length)
 
 /* What a code word costs that differs so from the word at logical bit `first`: the sum of the confidences there. */
 static inline unsigned cost(unsigned differing, unsigned first, unsigned length,
-                            const uint8_t *confidences)
+                            const uint8_t *places, const uint8_t *confidences)
 {
     unsigned sum = 0;
     for (unsigned i = 0; i < length; i++)
         if (differing >> (length - 1 - i) & 1)
-            sum += confidences[place_of(first + i)];
+            sum += confidences[place_of(places, first + i)];
     return sum;
 }
 
 /* The data of the cheapest code word for the word at logical bit `first`, the smallest of several; whether it is the
    only one. Adds the places where the word differs from it to `repaired`. */
-static inline bool choose(uint64_t bits, unsigned first, unsigned length,
+static inline bool choose(uint64_t bits, unsigned first, unsigned length, const uint8_t *places,
                           const uint8_t *confidences, unsigned *data, unsigned *repaired)
 {
     unsigned word = field(bits, first, length), least = UINT_MAX, wrong = 0;
     bool only = true;
     for (unsigned u = 0; u < (length == 6 ? 8 : 16); u++) {
         unsigned differing = word ^ code_word(u, length);
-        unsigned sum = cost(differing, first, length, confidences);
+        unsigned sum = cost(differing, first, length, places, confidences);
         if (sum < least) {
             least = sum;
             wrong = differing;

@@ -1,25 +1,26 @@
-/* The program bench_receive in C: frames from standard input, and the sum of all that they are answered, in eight
-   bytes, to standard output. Plain unless TUNED is set. */
+/* The program bench_receive in C: an order from standard input, 54 bytes, then frames in that order, and the sum of all
+   that they are answered, in eight bytes, to standard output. Plain unless TUNED is set. */
 #include "sum.h"
 
-enum { MOST_INPUT = 9362 * FRAME_BYTES };
+enum { MOST_INPUT = FRAME_BITS + 9362 * FRAME_BYTES };
 
 /* What a frame adds to the sum. */
-static unsigned sum_of_frame(struct record *record, const uint8_t *frame)
+static unsigned sum_of_frame(struct record *record, const uint8_t *order, const uint8_t *frame)
 {
     struct result result;
-    enum refusal refusal = receive(record, frame, FRAME_BYTES, &result);
+    enum refusal refusal = receive(record, order, FRAME_BITS, frame, FRAME_BYTES, &result);
     return sum_of_answer(refusal, &result);
 }
 
 int main(void)
 {
     static uint8_t input[MOST_INPUT];
-    size_t frames = read_input(input, sizeof input) / FRAME_BYTES;
+    const uint8_t *volatile order = input; /* So that each call tests it. */
+    size_t frames = count_after(FRAME_BITS, read_input(input, sizeof input), FRAME_BYTES);
     struct record record = {0};
     uint64_t sum = 0;
     for (size_t i = 0; i < frames; i++)
-        sum += sum_of_frame(&record, input + i * FRAME_BYTES);
+        sum += sum_of_frame(&record, order, input + FRAME_BITS + i * FRAME_BYTES);
     write_sum(sum);
     return EXIT_SUCCESS;
 }

@@ -1,5 +1,6 @@
-/* Receiving a frame: repair, erasure and repeat, gain levels, mute; soft.h receives with confidences. Unpacking, the
-   pitch code, repair of the words and the latest kinds come from plain.h, or where TUNED is set from tuned.h. */
+/* Receiving a frame: repair, erasure and repeat, gain levels, mute; soft.h receives with confidences. The order,
+   unpacking, the pitch code, repair of the words and the latest kinds come from plain.h, or where TUNED is set from
+   tuned.h. */
 #ifndef RECEIVE_H
 #define RECEIVE_H
 
@@ -17,7 +18,8 @@ enum refusal {
     REFUSED_LENGTH = 2,
     REFUSED_PADDING = 3,
     REFUSED_RECORD = 4,
-    REFUSED_CONFIDENCES = 9
+    REFUSED_CONFIDENCES = 9,
+    REFUSED_ORDER = 10
 };
 
 /* What a receiver keeps. */
@@ -64,23 +66,26 @@ static inline void read_voiced(uint64_t bits, uint8_t pitch, struct parameter_se
 }
 
 /* A way to decide words A to D: their data, or false where the frame is erased. Adds to `repaired`. */
-typedef bool decide_words(uint64_t bits, const uint8_t *confidences, unsigned data[4],
-                          unsigned *repaired);
+typedef bool decide_words(uint64_t bits, const uint8_t *places, const uint8_t *confidences,
+                          unsigned data[4], unsigned *repaired);
 
 /* The way without confidences. */
-static inline bool decide_by_syndrome(uint64_t bits, const uint8_t *confidences, unsigned data[4],
+static inline bool decide_by_syndrome(uint64_t bits, const uint8_t *places,
+                                      const uint8_t *confidences, unsigned data[4],
                                       unsigned *repaired)
 {
+    (void)places;
     (void)confidences;
     return repair_words(bits, data, repaired);
 }
 
 /* An unvoiced frame: false where it is erased. Adds to `repaired`. */
-static inline bool read_unvoiced(uint64_t bits, decide_words *decide, const uint8_t *confidences,
-                                 struct parameter_set *set, unsigned *repaired)
+static inline bool read_unvoiced(uint64_t bits, const uint8_t *places, decide_words *decide,
+                                 const uint8_t *confidences, struct parameter_set *set,
+                                 unsigned *repaired)
 {
     unsigned data[4];
-    if (!decide(bits, confidences, data, repaired))
+    if (!decide(bits, places, confidences, data, repaired))
         return false;
     read_indices(bits, data, set);
     set->voiced = false;
@@ -88,8 +93,8 @@ static inline bool read_unvoiced(uint64_t bits, decide_words *decide, const uint
 }
 
 /* Reads a frame's bits into the result's kind, set and repaired count. */
-static inline void read_frame(uint64_t bits, decide_words *decide, const uint8_t *confidences,
-                              struct result *result)
+static inline void read_frame(uint64_t bits, const uint8_t *places, decide_words *decide,
+                              const uint8_t *confidences, struct result *result)
 {
     unsigned code = field(bits, PITCH_CODE, 7), repaired = code != 0;
     uint8_t pitch = read_pitch(code);
@@ -99,7 +104,7 @@ static inline void read_frame(uint64_t bits, decide_words *decide, const uint8_t
         read_voiced(bits, pitch, &result->set);
         result->kind = VOICED;
     } else if (pitch == PITCH_UNVOICED &&
-               read_unvoiced(bits, decide, confidences, &result->set, &repaired)) {
+               read_unvoiced(bits, places, decide, confidences, &result->set, &repaired)) {
         result->repaired = (uint8_t)repaired;
         result->kind = UNVOICED;
     }
@@ -137,12 +142,10 @@ static inline void repeat(const struct record *record, struct result *result)
     result->first_level = result->second_level = level_of(record->g2);
 }
 
-/* The first refusal that applies; `count` is the number of confidences, 54 where none are asked for. */
-static inline enum refusal check(const struct record *record, const uint8_t *frame, size_t length,
-                                 size_t count)
+/* The first refusal that applies but for those of length and order; `count` is the number of confidences, 54 where
+   none are asked for. */
+static inline enum refusal check(const struct record *record, const uint8_t *frame, size_t count)
 {
-    if (length != FRAME_BYTES)
-        return REFUSED_LENGTH;
     if (frame[FRAME_BYTES - 1] & 3)
         return REFUSED_PADDING;
     if (count != FRAME_BITS)
@@ -152,12 +155,12 @@ static inline enum refusal check(const struct record *record, const uint8_t *fra
     return NOT_REFUSED;
 }
 
-/* The result of a frame that is not refused, and the record after it. */
-static inline void take_frame(struct record *record, const uint8_t *frame, decide_words *decide,
-                              const uint8_t *confidences, struct result *result)
+/* The result of a frame that is not refused, by its logical bits and their places, and the record after it. */
+static inline void take_frame(struct record *record, uint64_t bits, const uint8_t *places,
+                              decide_words *decide, const uint8_t *confidences,
+                              struct result *result)
 {
-    uint64_t bits = logical_bits(frame);
-    read_frame(bits, decide, confidences, result);
+    read_frame(bits, places, decide, confidences, result);
     if (result->kind == REPEAT)
         repeat(record, result);
     else
@@ -166,14 +169,49 @@ static inline void take_frame(struct record *record, const uint8_t *frame, decid
     result->sync = field(bits, SYNC, 1);
 }
 
-/* Takes a frame: the result and the record after it, or a refusal that changes neither. */
-static inline enum refusal receive(struct record *record, const uint8_t *frame, size_t length,
-                                   struct result *result)
+/* Takes a frame of seven bytes in the default order, by one of the two ways. */
+static inline enum refusal take_default(struct record *record, const uint8_t *frame,
+                                        decide_words *decide, const uint8_t *confidences,
+                                        size_t count, struct result *result)
 {
-    enum refusal refusal = check(record, frame, length, FRAME_BITS);
+    enum refusal refusal = check(record, frame, count);
     if (refusal == NOT_REFUSED)
-        take_frame(record, frame, decide_by_syndrome, NULL, result);
+        take_frame(record, default_bits(frame), PLACE, decide, confidences, result);
     return refusal;
+}
+
+/* The same in an order of `numbers` numbers. */
+static inline enum refusal take_by(struct record *record, const uint8_t *order, size_t numbers,
+                                   const uint8_t *frame, decide_words *decide,
+                                   const uint8_t *confidences, size_t count, struct result *result)
+{
+    uint8_t places[MOST_PLACES];
+    if (is_default(order, numbers))
+        return take_default(record, frame, decide, confidences, count, result);
+    if (!read_order(order, numbers, frame, confidences, places))
+        return REFUSED_ORDER;
+    enum refusal refusal = check(record, frame, count);
+    if (refusal == NOT_REFUSED)
+        take_frame(record, logical_bits(frame, places), places, decide, confidences, result);
+    return refusal;
+}
+
+/* Takes a frame in an order: the result and the record after it, or a refusal that changes neither. */
+static inline enum refusal receive(struct record *record, const uint8_t *order, size_t numbers,
+                                   const uint8_t *frame, size_t length, struct result *result)
+{
+    if (length != FRAME_BYTES)
+        return REFUSED_LENGTH;
+    return take_by(record, order, numbers, frame, decide_by_syndrome, NULL, FRAME_BITS, result);
+}
+
+/* The same in the default order, which is not handed over. */
+static inline enum refusal receive_default(struct record *record, const uint8_t *frame,
+                                           size_t length, struct result *result)
+{
+    if (length != FRAME_BYTES)
+        return REFUSED_LENGTH;
+    return take_default(record, frame, decide_by_syndrome, NULL, FRAME_BITS, result);
 }
 
 #endif

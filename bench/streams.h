@@ -19,6 +19,12 @@ static size_t read_input(uint8_t *input, size_t size)
     return length;
 }
 
+/* How many whole pieces of `size` bytes come after the first `front` of an input. */
+static inline size_t count_after(size_t front, size_t length, size_t size)
+{
+    return length < front ? 0 : (length - front) / size;
+}
+
 /* Writes from `next` up to `end`; a write that fails ends the program. */
 static void write_output(const void *from, const void *end)
 {

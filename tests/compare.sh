@@ -1,11 +1,13 @@
 #!/usr/bin/env bash
 # The proved programs against the independent implementation, on inputs that follow from SEED (1 if not given):
-#   compare.sh vectors VECTORS [SEED]   so many calls of the library
-#   compare.sh soft VECTORS [SEED]      so many of its calls with confidences
-#   compare.sh spectrum INPUTS [SEED]   at least so many inputs of the program spectrum
-#   compare.sh hear FRAMES [SEED]       at least so many frames of the program hear
-#   compare.sh session FILES [SEED]     at least so many inputs of the programs from_session and to_session
-#   compare.sh                          a short run of all five
+#   compare.sh vectors VECTORS [SEED]      so many calls of the library
+#   compare.sh soft VECTORS [SEED]         so many of its calls with confidences
+#   compare.sh orders VECTORS [SEED]       so many of its calls that take an order
+#   compare.sh order FILE VECTORS [SEED]   so many of these calls with the order in a file: 54 numbers in decimal
+#   compare.sh spectrum INPUTS [SEED]      at least so many inputs of the program spectrum
+#   compare.sh hear FRAMES [SEED]          at least so many frames of the program hear
+#   compare.sh session FILES [SEED]        at least so many inputs of the programs from_session and to_session
+#   compare.sh                             a short run of all but order
 # Ends with status 1 at the first difference. Needs rustc, and the proved programs in target/bin (rt check).
 set -euo pipefail
 top=$(cd "$(dirname "$0")/.." && pwd)
@@ -44,7 +46,7 @@ same() {
   return 1
 }
 
-# ---- vectors and soft ----
+# ---- vectors, soft, orders and order ----
 
 # says FILE ANSWER: whether this is the proved program's answer to the vectors of a file; said is what it says.
 says() {
@@ -85,15 +87,15 @@ wrong_vector() {
   echo "vector $first:" && od -An -tx1 -v "$work/part"
 }
 
-# compare_lots NAME MOST VECTORS SEED [WORD]: so many vectors, at most MOST of a seed; WORD says which.
+# compare_lots NAME MOST VECTORS SEED [WORD...]: so many vectors, at most MOST of a seed; the words say which.
 compare_lots() {
-  local count=0 most=$2 seed=$4 word=("${@:5}") lot said
+  local count=0 most=$2 seed=$4 words=("${@:5}") lot said
   prepare vectors
   find_stored
   find_spoilt "$seed"
   while ((count < $3)); do
     lot=$(($3 - count < most ? $3 - count : most))
-    "$work/vectors" "$lot" "$seed" "${word[@]}" >"$work/lot"
+    "$work/vectors" "$lot" "$seed" "${words[@]}" >"$work/lot"
     says lot "vectors=$lot differences=0 left=0" ||
       fail "$1: seed $seed, $lot vectors, answer: \"$said\"" "$(wrong_vector)"
     count=$((count + lot)) seed=$((seed + 1))
@@ -108,6 +110,15 @@ compare_vectors() {
 
 compare_soft() {
   compare_lots soft 20000 "$@" soft
+}
+
+compare_orders() {
+  compare_lots orders 20000 "$@" orders
+}
+
+# compare_order FILE VECTORS SEED
+compare_order() {
+  compare_lots order 20000 "$2" "$3" order "$1"
 }
 
 # ---- spectrum ----
@@ -255,13 +266,16 @@ number='^[1-9][0-9]{0,8}$'
 if (($# == 0)); then
   compare_vectors 10000 1
   compare_soft 20000 1
+  compare_orders 20000 1
   compare_spectrum 1500 1
   compare_hear 100000 1
   compare_session 2000 1
-elif [[ $1 =~ ^(vectors|soft|spectrum|hear|session)$ && ${2-} =~ $number && ${3-1} =~ $number && $# -le 3 ]]; then
+elif [[ $1 =~ ^(vectors|soft|orders|spectrum|hear|session)$ && ${2-} =~ $number && ${3-1} =~ $number && $# -le 3 ]]; then
   "compare_$1" "$2" "${3-1}"
+elif [[ $1 == order && -n ${2-} && ${3-} =~ $number && ${4-1} =~ $number && $# -le 4 ]]; then
+  compare_order "$2" "$3" "${4-1}"
 else
-  echo "usage: compare.sh [vectors VECTORS [SEED] | soft VECTORS [SEED] | spectrum INPUTS [SEED] | hear FRAMES [SEED] |" \
-    "session FILES [SEED]]"
+  echo "usage: compare.sh [vectors VECTORS [SEED] | soft VECTORS [SEED] | orders VECTORS [SEED] |" \
+    "order FILE VECTORS [SEED] | spectrum INPUTS [SEED] | hear FRAMES [SEED] | session FILES [SEED]]"
   exit 2
 fi

@@ -3,6 +3,7 @@
 use crate::frames::{self, random_received, random_set};
 use crate::layout::{bits_of_word, put, put_answer, vector_of, word_of, Vector};
 use crate::melp::{self, Content, PitchClass, Set, WordReading};
+use crate::order_lists::List;
 use crate::random::Random;
 use crate::set_bytes::bytes_of;
 use crate::set_vectors::sets;
@@ -46,20 +47,25 @@ fn random_output_length(random: &mut Random) -> u8 {
     }
 }
 
-/// A vector of packing.
-pub fn pack(random: &mut Random) -> Vector {
-    let set = any_set(random, 4);
-    let sync = random.inside(1);
-    let room = random_output_length(random);
+/// The vector of packing a set into an output of some length.
+pub fn pack_vector(set: &Set, sync: u8, room: u8, list: &List) -> Vector {
     let mut vector = vector_of(1);
-    put(&mut vector, 1, &bytes_of(&set));
+    put(&mut vector, 1, &bytes_of(set));
     put(&mut vector, 12, &[sync, room]);
     put(&mut vector, 16, &[HELD; 16]);
-    let packed = melp::pack(&set, sync, usize::from(room));
+    list.put(&mut vector);
+    let packed = melp::pack(set, sync, usize::from(room), list.given());
     put_answer(&mut vector, 14, packed, |(frame, next)| {
         [&[*next][..], frame].concat()
     });
     vector
+}
+
+/// A vector of packing.
+pub fn pack(random: &mut Random, list: &List) -> Vector {
+    let set = any_set(random, 4);
+    let sync = random.inside(1);
+    pack_vector(&set, sync, random_output_length(random), list)
 }
 
 // ---- Kinds 2 and 3: pitch ----
@@ -141,8 +147,9 @@ fn random_word(random: &mut Random) -> u64 {
     let set = random_set(random);
     let sync = random.inside(1);
     let damage = random.pick(&[frames::Damage::Any, frames::Damage::OneInEach]);
-    let frame = frames::damaged(random, &set, sync, damage);
-    let logical = melp::bits_of_frame(&frame).expect("a frame");
+    let order = melp::default_order();
+    let frame = frames::damaged(random, &set, sync, damage, &order);
+    let logical = melp::bits_of_frame(&frame, &order).expect("a frame");
     let above = random.next() << 54;
     match random.below(4) {
         0 => random.next(),
@@ -152,26 +159,39 @@ fn random_word(random: &mut Random) -> u64 {
     }
 }
 
-/// A vector of the frame of 54 bits.
-pub fn frame_of_bits(random: &mut Random) -> Vector {
-    let word = random_word(random);
+/// The vector of the frame of the bits in a number.
+pub fn frame_vector(word: u64, list: &List) -> Vector {
     let mut vector = vector_of(10);
     put(&mut vector, 1, &word.to_be_bytes());
-    put(&mut vector, 9, &melp::frame_of_bits(&bits_of_word(word)));
+    list.put(&mut vector);
+    match melp::frame_of_bits(&bits_of_word(word), list.given()) {
+        Err(refusal) => vector[16] = refusal.number(),
+        Ok(frame) => put(&mut vector, 9, &frame),
+    }
     vector
 }
 
-/// A vector of the 54 bits of a frame.
-pub fn bits_of_frame(random: &mut Random) -> Vector {
-    let received = random_received(random);
+/// A vector of the frame of 54 bits.
+pub fn frame_of_bits(random: &mut Random, list: &List) -> Vector {
+    frame_vector(random_word(random), list)
+}
+
+/// The vector of the 54 bits of a frame.
+pub fn bits_vector(received: &[u8], list: &List) -> Vector {
     let mut vector = vector_of(11);
     vector[1] = received.len() as u8;
-    put(&mut vector, 2, &received);
-    let logical = melp::bits_of_frame(&received);
+    put(&mut vector, 2, received);
+    list.put(&mut vector);
+    let logical = melp::bits_of_frame(received, list.given());
     put_answer(&mut vector, 11, logical, |logical| {
         word_of(logical).to_be_bytes().to_vec()
     });
     vector
+}
+
+/// A vector of the 54 bits of a frame.
+pub fn bits_of_frame(random: &mut Random, list: &List) -> Vector {
+    bits_vector(&random_received(random, &list.order), list)
 }
 
 // ---- Kind 12: sets ----
@@ -227,8 +247,9 @@ fn spare_words() -> Vec<Vector> {
 
 /// The frame of a set with some logical bits flipped, as a number.
 fn flipped_word(set: &Set, flips: &[usize]) -> u64 {
-    let frame = melp::frame_of(set, 0).expect("a set in range");
-    let logical = melp::bits_of_frame(&frame).expect("a frame");
+    let order = melp::default_order();
+    let frame = melp::frame_of(set, 0, &order).expect("a set in range");
+    let logical = melp::bits_of_frame(&frame, &order).expect("a frame");
     let flip = |word, j: &usize| word ^ 1 << (53 - j);
     flips.iter().fold(word_of(&logical), flip)
 }

@@ -1,9 +1,15 @@
-//! Document 01's section "Examples", tried on the independent implementation, and our own for T-02, T-05 and T-06; the eighth
-//! is in `spectrum.rs`.
+//! Document 01's section "Examples", tried on the independent implementation, and our own for T-02, T-05, T-06 and T-07; the
+//! eighth is in `spectrum.rs`.
 
 use crate::frames;
-use crate::melp::{self, FrameResult, Kind, PitchClass, Record, Refusal, Set, WordReading};
+use crate::melp::{
+    self, default_order, FrameResult, Kind, PitchClass, Record, Refusal, Set, WordReading,
+};
 use crate::old_record;
+use crate::order_file;
+use crate::order_lists::{self, exchanged, identity};
+use crate::random::Random;
+use crate::set_vectors::sets;
 use crate::soft;
 
 /// The frame of example 6 as the document prints it.
@@ -83,7 +89,8 @@ fn example_5() -> bool {
 
 /// Example 6: a frame packed by a fresh sender, and its line in section "Program hear".
 fn example_6() -> bool {
-    let received = melp::receive(&melp::fresh_record(), &EXAMPLE_FRAME);
+    let order = default_order();
+    let received = melp::receive(&melp::fresh_record(), &EXAMPLE_FRAME, &order);
     let expected = FrameResult {
         kind: Kind::Unvoiced,
         set: EXAMPLE_SET,
@@ -93,13 +100,14 @@ fn example_6() -> bool {
         sync: 0,
         repaired: 0,
     };
-    melp::pack(&EXAMPLE_SET, 0, 7) == Ok((EXAMPLE_FRAME, 1))
+    melp::pack(&EXAMPLE_SET, 0, 7, &order) == Ok((EXAMPLE_FRAME, 1))
         && received.map(|(result, _)| result) == Ok(expected)
 }
 
 /// Example 7: two repairs, and two flips in word A.
 fn example_7() -> bool {
-    let receive = |places: &[usize]| melp::receive(&melp::fresh_record(), &flipped(places));
+    let receive =
+        |places: &[usize]| melp::receive(&melp::fresh_record(), &flipped(places), &default_order());
     let repaired = receive(&[0, 6]).map(|(r, _)| (r.kind, r.set, r.repaired));
     let erased = receive(&[0, 7]).map(|(r, _)| (r.kind, r.repaired));
     repaired == Ok((Kind::Unvoiced, EXAMPLE_SET, 2)) && erased == Ok((Kind::Repeat, 0))
@@ -109,8 +117,8 @@ fn example_7() -> bool {
 /// leaves the same three bits, is repaired.
 fn spare_syndrome() -> bool {
     let receive = |bits: &[usize]| {
-        let places: Vec<usize> = bits.iter().map(|j| melp::place_of(*j)).collect();
-        melp::receive(&melp::fresh_record(), &flipped(&places))
+        let places = frames::places_of(bits, &default_order());
+        melp::receive(&melp::fresh_record(), &flipped(&places), &default_order())
             .map(|(r, _)| (r.kind, r.set.lsf[0], r.repaired))
     };
     receive(&[8, 13]) == Ok((Kind::Repeat, 0, 0))
@@ -139,7 +147,8 @@ fn chosen_words() -> bool {
 /// and so do all 0 in the frame as sent. 53 are refused.
 fn confident_frame() -> bool {
     let receive = |places: &[usize], confidences: &[u8]| {
-        soft::receive(&melp::fresh_record(), &flipped(places), confidences)
+        let frame = flipped(places);
+        soft::receive(&melp::fresh_record(), &frame, confidences, &default_order())
             .map(|(r, _)| (r.kind, r.set.lsf[0], r.repaired))
     };
     let mut low = [200; 54];
@@ -155,7 +164,7 @@ fn counts(frames: &[[u8; 7]]) -> Result<Vec<(u8, u8)>, Refusal> {
     let mut record = melp::fresh_record();
     let mut counts = Vec::new();
     for frame in frames {
-        let (result, next) = melp::receive(&record, frame)?;
+        let (result, next) = melp::receive(&record, frame, &default_order())?;
         counts.push((result.mute, next.repeat_count));
         record = next;
     }
@@ -170,7 +179,7 @@ fn mutes(frame: [u8; 7], count: usize) -> Result<Vec<u8>, Refusal> {
 
 /// Example 9: eight erased frames, erased by the pitch code or by word A.
 fn example_9() -> bool {
-    let by_pitch = flipped(&[melp::place_of(28), melp::place_of(29)]);
+    let by_pitch = flipped(&frames::places_of(&[28, 29], &default_order()));
     let by_word = flipped(&[0, 7]);
     let expected = Ok(vec![0, 0, 0, 0, 0, 0, 0, 1]);
     mutes(by_pitch, 8) == expected && mutes(by_word, 8) == expected
@@ -193,16 +202,84 @@ fn wrong_count() -> bool {
         repeat_count: 1,
         ..melp::fresh_record()
     };
-    let receive = |bytes: &[u8]| melp::receive(&record, bytes).map(|(_, next)| next);
+    let order = default_order();
+    let receive = |bytes: &[u8]| melp::receive(&record, bytes, &order).map(|(_, next)| next);
     receive(&EXAMPLE_FRAME) == Err(Refusal::Record)
         && receive(&EXAMPLE_FRAME[1..]) == Err(Refusal::FrameLength)
         && receive(&[1; 7]) == Err(Refusal::Padding)
-        && soft::receive(&record, &EXAMPLE_FRAME, &[]) == Err(Refusal::Confidences)
+        && soft::receive(&record, &EXAMPLE_FRAME, &[], &order) == Err(Refusal::Confidences)
+}
+
+/// Burst widths (document 02's T-07): 7 of the default order, 1 of the bits in their own order. In a block of six rows and nine
+/// columns, filled by rows and sent by columns, two bits of a word or of the pitch code that are neighbours in a row are six
+/// places apart and no two are nearer, so 6. In the default order with its first two entries exchanged, word A has places 1
+/// and 7, so 6; with places 0 and 6 exchanged it has 6 and 7, so 1.
+fn burst_widths() -> bool {
+    let default = default_order();
+    melp::burst_width(&default) == Ok(7)
+        && melp::burst_width(&identity()) == Ok(1)
+        && melp::burst_width(&order_lists::block()) == Ok(6)
+        && melp::burst_width(&exchanged(default, 0, 1)) == Ok(6)
+        && melp::burst_width(&exchanged(default, 0, 6)) == Ok(1)
+        && melp::burst_width(&default[1..]) == Err(Refusal::Order)
+}
+
+/// A set packed and received in an order (document 02's T-07): in the bits' own one, example 6's frame is 10110100 010101
+/// 0101010 1000110 and 26 zeros; in a thousand random ones both sets return, without and with confidences.
+fn own_orders() -> bool {
+    let own = [0xB4, 0x55, 0x54, 0x60, 0, 0, 0];
+    let mut random = Random::new(7);
+    let comes_back = |set: Set, list: &[u8]| {
+        let fresh = melp::fresh_record();
+        let packed = melp::pack(&set, 1, 7, list);
+        packed.is_ok_and(|(frame, _)| {
+            let received = melp::receive(&fresh, &frame, list);
+            received.is_ok_and(|(result, _)| (result.set, result.sync) == (set, 1))
+                && received == soft::receive(&fresh, &frame, &[9; 54], list)
+        })
+    };
+    melp::pack(&EXAMPLE_SET, 0, 7, &identity()) == Ok((own, 1))
+        && (0..1000).all(|_| {
+            let order = order_lists::permutation(&mut random);
+            sets().iter().all(|set| comes_back(*set, &order))
+        })
+}
+
+/// A list that is no order (document 02's T-07): 10, after 2 and 1, before 3, 9 and 5.
+fn no_order() -> bool {
+    let fresh = melp::fresh_record();
+    let mut list = default_order();
+    list[53] = list[0];
+    let receive = |bytes: &[u8]| melp::receive(&fresh, bytes, &list).map(|(_, next)| next);
+    let wrong_set = Set {
+        g1: 8,
+        ..EXAMPLE_SET
+    };
+    receive(&EXAMPLE_FRAME) == Err(Refusal::Order)
+        && receive(&EXAMPLE_FRAME[1..]) == Err(Refusal::FrameLength)
+        && receive(&[1; 7]) == Err(Refusal::Order)
+        && soft::receive(&fresh, &EXAMPLE_FRAME, &[], &list) == Err(Refusal::Order)
+        && melp::pack(&wrong_set, 0, 7, &list) == Err(Refusal::Order)
+        && melp::pack(&wrong_set, 0, 6, &list) == Err(Refusal::Output)
+}
+
+/// An order in a file: numbers with any white space between them, and nothing else.
+fn order_file() -> bool {
+    let words: Vec<String> = order_lists::block().iter().map(u8::to_string).collect();
+    let text = words.join(" \n");
+    let is_bad = |text: String| order_file::order_in(text.as_bytes()).is_err();
+    order_file::order_in(text.as_bytes()) == Ok(order_lists::block())
+        && is_bad(words[1..].join(" "))
+        && is_bad(text.replace("17", "18"))
+        && is_bad(text.replace("17", "+17"))
+        && is_bad(text.replace("17", "17,"))
+        && is_bad(text.replace("53", "54"))
+        && is_bad(text + " 54")
 }
 
 /// The first example that fails, if any does.
 pub fn first_failure() -> Option<&'static str> {
-    let examples: [(&str, fn() -> bool); 14] = [
+    let examples: [(&str, fn() -> bool); 18] = [
         ("1", example_1),
         ("2", example_2),
         ("3", example_3),
@@ -217,6 +294,10 @@ pub fn first_failure() -> Option<&'static str> {
         ("of T-06, a count of repeats", count_of_repeats),
         ("of T-06, a wrong count", wrong_count),
         ("of T-06, old records", old_record::lists_keep_step),
+        ("of T-07, burst widths", burst_widths),
+        ("of T-07, orders", own_orders),
+        ("of T-07, a list that is none", no_order),
+        ("of T-07, a file", order_file),
     ];
     examples
         .iter()

@@ -3,11 +3,8 @@
 // Each program uses its part.
 #![allow(dead_code)]
 
-use crate::melp::{self, Set, Voicing};
+use crate::melp::{self, Order, Set, Voicing, FIELDS};
 use crate::random::Random;
-
-/// First and last logical bit of words A to D and of the pitch code.
-const FIELDS: [(usize, usize); 5] = [(0, 7), (8, 13), (14, 20), (21, 27), (28, 34)];
 
 /// Logical bits of word B that together leave its spare's syndrome, 111: a data bit and a parity bit, or all parity bits.
 pub const SPARE_FLIPS: [&[usize]; 4] = [&[8, 13], &[9, 12], &[10, 11], &[11, 12, 13]];
@@ -19,7 +16,7 @@ pub enum Damage {
     None,
     /// Flips anywhere.
     Anywhere,
-    /// Flips within seven neighbouring places.
+    /// Flips within as many neighbouring places as the order's burst width, so seven in the default one.
     Burst,
     /// At most one flip in each word and in the pitch code.
     OneInEach,
@@ -72,18 +69,23 @@ pub fn random_set(random: &mut Random) -> Set {
 
 // ---- Flips ----
 
+/// Places of some logical bits.
+pub fn places_of(bits: &[usize], order: &Order) -> Vec<usize> {
+    bits.iter().map(|j| melp::place_of(*j, order)).collect()
+}
+
 /// Places of a word or of the pitch code.
-fn places_of_field(field: usize) -> Vec<usize> {
+fn places_of_field(field: usize, order: &Order) -> Vec<usize> {
     let (first, last) = FIELDS[field];
-    (first..=last).map(melp::place_of).collect()
+    places_of(&(first..=last).collect::<Vec<usize>>(), order)
 }
 
 /// At most one place of each word and of the pitch code.
-fn one_in_each(random: &mut Random) -> Vec<usize> {
+fn one_in_each(random: &mut Random, order: &Order) -> Vec<usize> {
     let mut flips = Vec::new();
     for field in 0..FIELDS.len() {
         let count = random.below(2) as usize;
-        flips.extend(random.some_of(&places_of_field(field), count));
+        flips.extend(random.some_of(&places_of_field(field, order), count));
     }
     flips
 }
@@ -100,26 +102,27 @@ fn random_damage(random: &mut Random) -> Damage {
     }
 }
 
+/// Some places of a stretch as long as the burst width of an order.
+fn burst(random: &mut Random, count: usize, order: &Order) -> Vec<usize> {
+    let width = melp::burst_width(order).expect("an order");
+    let start = random.below(55 - width as u64) as usize;
+    random.some_of(&(start..start + width).collect::<Vec<usize>>(), count)
+}
+
 /// Places that the channel changes, so many where the damage leaves the number open.
-pub fn flips(random: &mut Random, damage: Damage, count: usize) -> Vec<usize> {
+pub fn flips(random: &mut Random, damage: Damage, count: usize, order: &Order) -> Vec<usize> {
     match damage {
         Damage::None => Vec::new(),
         Damage::Anywhere => random.some_of(&(0..54).collect::<Vec<usize>>(), count),
-        Damage::Burst => {
-            let start = random.below(48) as usize;
-            random.some_of(&(start..start + 7).collect::<Vec<usize>>(), count)
-        }
-        Damage::OneInEach => one_in_each(random),
-        Damage::TwoInWordA => random.some_of(&places_of_field(0), 2),
-        Damage::SpareOfB => {
-            let bits = random.pick(&SPARE_FLIPS);
-            bits.iter().map(|j| melp::place_of(*j)).collect()
-        }
-        Damage::TwoInPitchCode => random.some_of(&places_of_field(4), 2),
-        Damage::OneField(field) => random.some_of(&places_of_field(field), count),
+        Damage::Burst => burst(random, count, order),
+        Damage::OneInEach => one_in_each(random, order),
+        Damage::TwoInWordA => random.some_of(&places_of_field(0, order), 2),
+        Damage::SpareOfB => places_of(random.pick(&SPARE_FLIPS), order),
+        Damage::TwoInPitchCode => random.some_of(&places_of_field(4, order), 2),
+        Damage::OneField(field) => random.some_of(&places_of_field(field, order), count),
         Damage::Any => {
             let damage = random_damage(random);
-            flips(random, damage, count)
+            flips(random, damage, count, order)
         }
     }
 }
@@ -135,9 +138,9 @@ pub fn flipped(mut frame: [u8; 7], places: &[usize]) -> [u8; 7] {
 }
 
 /// The frame of a set with some logical bits changed, its sync bit 1.
-pub fn frame_with(set: &Set, bits: &[usize]) -> [u8; 7] {
-    let places: Vec<usize> = bits.iter().map(|j| melp::place_of(*j)).collect();
-    flipped(melp::frame_of(set, 1).expect("a set in range"), &places)
+pub fn frame_with(set: &Set, bits: &[usize], order: &Order) -> [u8; 7] {
+    let frame = melp::frame_of(set, 1, order).expect("a set in range");
+    flipped(frame, &places_of(bits, order))
 }
 
 /// Any 54 bits.
@@ -149,10 +152,10 @@ pub fn random_bits(random: &mut Random) -> [u8; 7] {
 }
 
 /// The frame of a set in range after damage.
-pub fn damaged(random: &mut Random, set: &Set, sync: u8, damage: Damage) -> [u8; 7] {
-    let frame = melp::frame_of(set, sync).expect("a set in range");
+pub fn damaged(random: &mut Random, set: &Set, sync: u8, damage: Damage, order: &Order) -> [u8; 7] {
+    let frame = melp::frame_of(set, sync, order).expect("a set in range");
     let count = random.pick(&[1, 1, 2, 2, 3, 4, 5, 6]);
-    flipped(frame, &flips(random, damage, count))
+    flipped(frame, &flips(random, damage, count, order))
 }
 
 /// Set one or both of the last two bits of a frame.
@@ -161,13 +164,13 @@ pub fn set_padding(random: &mut Random, frame: &mut [u8; 7]) {
 }
 
 /// The frame of some set with any damage, or any 54 bits; sometimes with its last bits set.
-fn random_frame(random: &mut Random) -> [u8; 7] {
+fn random_frame(random: &mut Random, order: &Order) -> [u8; 7] {
     let mut frame = if random.once_in(8) {
         random_bits(random)
     } else {
         let set = random_set(random);
         let sync = random.inside(1);
-        damaged(random, &set, sync, Damage::Any)
+        damaged(random, &set, sync, Damage::Any, order)
     };
     if random.once_in(12) {
         set_padding(random, &mut frame);
@@ -182,8 +185,8 @@ pub fn change_length(random: &mut Random, bytes: &mut Vec<u8>) {
 }
 
 /// The bytes handed to a receiver: mostly a frame, sometimes of another length.
-pub fn random_received(random: &mut Random) -> Vec<u8> {
-    let mut bytes = random_frame(random).to_vec();
+pub fn random_received(random: &mut Random, order: &Order) -> Vec<u8> {
+    let mut bytes = random_frame(random, order).to_vec();
     if random.once_in(12) {
         change_length(random, &mut bytes);
     }

@@ -49,10 +49,11 @@ fn result_text(result: &FrameResult) -> String {
 /// All that is printed for the bytes read.
 fn hear(input: &[u8]) -> String {
     let mut text = "grain=186 order=house\n".to_string();
+    let order = melp::default_order();
     let mut record = melp::fresh_record();
     let (mut frames, mut repeats) = (0, 0);
     for frame in input.chunks_exact(FRAME) {
-        let answer = match melp::receive(&record, frame) {
+        let answer = match melp::receive(&record, frame, &order) {
             Err(refusal) => format!("refused={}", refusal.number()),
             Ok((result, next)) => {
                 record = next;

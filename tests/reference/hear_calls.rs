@@ -59,7 +59,8 @@ impl Link {
         if !may_be_voiced {
             set.voicing = None;
         }
-        let frame = frames::damaged(&mut self.random, &set, self.sync, damage);
+        let order = melp::default_order();
+        let frame = frames::damaged(&mut self.random, &set, self.sync, damage, &order);
         self.sync = 1 - self.sync;
         frame
     }

@@ -1,11 +1,11 @@
-//! A second implementation of document 01 up to receiving, with the record of document 02's T-06: slow, plain, section by
-//! section.
+//! A second implementation of document 01 up to receiving, with the record of document 02's T-06 and the orders of its T-07:
+//! slow, plain, section by section.
 //! Bits are u8 values 0 or 1; lists of bits run most significant first.
 
 // Each program uses its part.
 #![allow(dead_code)]
 
-/// Refusal numbers of section "Refusals by place", and document 02's 8 and 9.
+/// Refusal numbers of section "Refusals by place", and document 02's 8, 9 and 10.
 #[derive(Clone, Copy, Debug, PartialEq, Eq)]
 pub enum Refusal {
     Output = 1,
@@ -17,6 +17,7 @@ pub enum Refusal {
     Row = 7,
     Line = 8,
     Confidences = 9,
+    Order = 10,
 }
 
 impl Refusal {
@@ -346,11 +347,63 @@ pub fn record_is_valid(record: &Record) -> bool {
     last_in_range(&record.last) && record.repeat_count == count_repeats(&record.repeats)
 }
 
-// ---- Order of the bits (section "Order of the bits") ----
+// ---- Order of the bits (section "Order of the bits", and document 02's T-07) ----
 
-/// Place in the frame of a logical bit.
-pub fn place_of(logical: usize) -> usize {
-    7 * logical % 54
+/// An order: entry t is the logical bit at place t.
+pub type Order = [u8; 54];
+
+/// The default order: logical bit j is at place 7 × j modulo 54.
+pub fn default_order() -> Order {
+    let mut order = [0; 54];
+    for j in 0..54 {
+        order[7 * j % 54] = j as u8;
+    }
+    order
+}
+
+/// Whether a list is an order: 54 entries, each number once.
+pub fn is_order(list: &[u8]) -> bool {
+    let count = |j: u8| list.iter().filter(|entry| **entry == j).count();
+    list.len() == 54 && (0..54).all(|j| count(j) == 1)
+}
+
+/// The order that a list is: refuse 10.
+pub fn order_of(list: &[u8]) -> Result<Order, Refusal> {
+    if !is_order(list) {
+        return Err(Refusal::Order);
+    }
+    let mut order = [0; 54];
+    order.copy_from_slice(list);
+    Ok(order)
+}
+
+/// Place in the frame of a logical bit: where an order names it.
+pub fn place_of(logical: usize, order: &Order) -> usize {
+    (0..54)
+        .find(|t| usize::from(order[*t]) == logical)
+        .expect("an order names each bit")
+}
+
+/// First and last logical bit of words A to D and of the pitch code.
+pub const FIELDS: [(usize, usize); 5] = [(0, 7), (8, 13), (14, 20), (21, 27), (28, 34)];
+
+/// Whether flips of some bits hit the pitch code or a word twice.
+fn hit_twice(bits: &[u8]) -> bool {
+    FIELDS.iter().any(|(first, last)| {
+        let hits = bits
+            .iter()
+            .filter(|j| (*first..=*last).contains(&usize::from(**j)));
+        hits.count() >= 2
+    })
+}
+
+/// Burst width of an order: the largest length up to 54 such that flips inside that many neighbouring places never hit the
+/// pitch code or any word twice. A list that is no order is refused with 10.
+pub fn burst_width(list: &[u8]) -> Result<usize, Refusal> {
+    let order = order_of(list)?;
+    let never_twice = |length: &usize| order.windows(*length).all(|bits| !hit_twice(bits));
+    let width = (1..=54).rev().find(never_twice);
+    Ok(width.expect("a single flip hits nothing twice"))
 }
 
 /// Data bits of words A, B, C and D.
@@ -420,21 +473,13 @@ fn logical_bits(set: &Set, sync: u8) -> Result<[u8; 54], Refusal> {
 }
 
 /// Bits by logical number to bits by place.
-fn to_places(logical: &[u8; 54]) -> [u8; 54] {
-    let mut places = [0; 54];
-    for j in 0..54 {
-        places[place_of(j)] = logical[j];
-    }
-    places
+fn to_places(logical: &[u8; 54], order: &Order) -> [u8; 54] {
+    std::array::from_fn(|t| logical[usize::from(order[t])])
 }
 
-/// Bits by place to bits by logical number.
-fn from_places(places: &[u8; 54]) -> [u8; 54] {
-    let mut logical = [0; 54];
-    for j in 0..54 {
-        logical[j] = places[place_of(j)];
-    }
-    logical
+/// What stands at each place, bits or confidences, by logical number.
+pub fn from_places(places: &[u8; 54], order: &Order) -> [u8; 54] {
+    std::array::from_fn(|j| places[place_of(j, order)])
 }
 
 /// Bits by place to the seven bytes, the last two bits 0.
@@ -455,9 +500,10 @@ fn from_bytes(bytes: &[u8; 7]) -> [u8; 54] {
     places
 }
 
-/// The frame of 54 bits by logical number.
-pub fn frame_of_bits(logical: &[u8; 54]) -> [u8; 7] {
-    to_bytes(&to_places(logical))
+/// The frame of 54 bits by logical number: refuse 10.
+pub fn frame_of_bits(logical: &[u8; 54], list: &[u8]) -> Result<[u8; 7], Refusal> {
+    let order = order_of(list)?;
+    Ok(to_bytes(&to_places(logical, &order)))
 }
 
 /// Change one place of a frame, as the channel may.
@@ -466,17 +512,25 @@ pub fn flip(frame: &mut [u8; 7], place: usize) {
 }
 
 /// The frame of any set in range, B = 1 let through.
-pub fn frame_of(set: &Set, sync: u8) -> Result<[u8; 7], Refusal> {
-    Ok(frame_of_bits(&logical_bits(set, sync)?))
+pub fn frame_of(set: &Set, sync: u8, list: &[u8]) -> Result<[u8; 7], Refusal> {
+    frame_of_bits(&logical_bits(set, sync)?, list)
 }
 
 /// The sync bit of a fresh sender.
 pub const FRESH_SYNC: u8 = 0;
 
-/// Pack a set with the sender's sync bit: the frame and the next sync bit.
-pub fn pack(set: &Set, sync: u8, output_length: usize) -> Result<([u8; 7], u8), Refusal> {
+/// Pack a set with the sender's sync bit: refuse 1, 10 or 5, else the frame and the next sync bit.
+pub fn pack(
+    set: &Set,
+    sync: u8,
+    output_length: usize,
+    list: &[u8],
+) -> Result<([u8; 7], u8), Refusal> {
     if output_length < 7 {
         return Err(Refusal::Output);
+    }
+    if !is_order(list) {
+        return Err(Refusal::Order);
     }
     if sync > 1 {
         return Err(Refusal::Record);
@@ -484,7 +538,7 @@ pub fn pack(set: &Set, sync: u8, output_length: usize) -> Result<([u8; 7], u8), 
     if !sender_takes(set) {
         return Err(Refusal::Parameter);
     }
-    Ok((frame_of(set, sync)?, 1 - sync))
+    Ok((frame_of(set, sync, list)?, 1 - sync))
 }
 
 // ---- Reading a frame (section "Receiver") ----
@@ -569,17 +623,18 @@ fn read_unvoiced(logical: &[u8; 54]) -> Content {
     unvoiced_content(logical, words.map(|word| decode_word(word.len(), word)))
 }
 
-/// The 54 bits of a frame by logical number: refuse 2 or 3.
-pub fn bits_of_frame(bytes: &[u8]) -> Result<[u8; 54], Refusal> {
+/// The 54 bits of a frame by logical number: refuse 2, 10 or 3.
+pub fn bits_of_frame(bytes: &[u8], list: &[u8]) -> Result<[u8; 54], Refusal> {
     if bytes.len() != 7 {
         return Err(Refusal::FrameLength);
     }
+    let order = order_of(list)?;
     let mut frame = [0; 7];
     frame.copy_from_slice(bytes);
     if frame[6] & 0b11 != 0 {
         return Err(Refusal::Padding);
     }
-    Ok(from_places(&from_bytes(&frame)))
+    Ok(from_places(&from_bytes(&frame), &order))
 }
 
 /// Class of the pitch code among 54 bits.
@@ -596,9 +651,9 @@ pub fn read_bits(logical: &[u8; 54]) -> Result<Content, Refusal> {
     }
 }
 
-/// Read a frame's bytes.
-pub fn read(bytes: &[u8]) -> Result<FrameReading, Refusal> {
-    let logical = bits_of_frame(bytes)?;
+/// Read a frame's bytes: refuse 2, 10 or 3.
+pub fn read(bytes: &[u8], list: &[u8]) -> Result<FrameReading, Refusal> {
+    let logical = bits_of_frame(bytes, list)?;
     Ok(FrameReading {
         content: read_bits(&logical)?,
         sync: logical[53],
@@ -706,9 +761,13 @@ pub fn take(record: &Record, frame: &FrameReading) -> Result<(FrameResult, Recor
     Ok((result, next))
 }
 
-/// Receive one frame: refuse 2, 3 or 4, else the result and the next record.
-pub fn receive(record: &Record, bytes: &[u8]) -> Result<(FrameResult, Record), Refusal> {
-    take(record, &read(bytes)?)
+/// Receive one frame: refuse 2, 10, 3 or 4, else the result and the next record.
+pub fn receive(
+    record: &Record,
+    bytes: &[u8],
+    list: &[u8],
+) -> Result<(FrameResult, Record), Refusal> {
+    take(record, &read(bytes, list)?)
 }
 
 // ---- Records of the old kind (document 02's T-06) ----

@@ -2,6 +2,7 @@
 
 use crate::frames::random_received;
 use crate::melp::{self, FrameReading, FrameResult, OldRecord, Record, Refusal};
+use crate::order_lists::{random_list, List};
 use crate::random::Random;
 use crate::record_vectors::any_old_record;
 use crate::soft::{self, CONFIDENCES};
@@ -10,21 +11,22 @@ use crate::soft::{self, CONFIDENCES};
 struct Call {
     bytes: Vec<u8>,
     confidences: Option<Vec<u8>>,
+    list: List,
 }
 
 /// Receive with a record.
 fn receive(record: &Record, call: &Call) -> Result<(FrameResult, Record), Refusal> {
     match &call.confidences {
-        None => melp::receive(record, &call.bytes),
-        Some(confidences) => soft::receive(record, &call.bytes, confidences),
+        None => melp::receive(record, &call.bytes, call.list.given()),
+        Some(confidences) => soft::receive(record, &call.bytes, confidences, call.list.given()),
     }
 }
 
 /// The frame of a call as read.
 fn read(call: &Call) -> Result<FrameReading, Refusal> {
     match &call.confidences {
-        None => melp::read(&call.bytes),
-        Some(confidences) => soft::read(&call.bytes, confidences),
+        None => melp::read(&call.bytes, call.list.given()),
+        Some(confidences) => soft::read(&call.bytes, confidences, call.list.given()),
     }
 }
 
@@ -43,14 +45,16 @@ fn receive_old(old: &OldRecord, call: &Call) -> Result<(FrameResult, OldRecord),
     Ok((result, next))
 }
 
-/// A call, half of the time with confidences, of which there are sometimes too few.
+/// A call in an order of its own, half of the time with confidences, of which there are sometimes too few.
 fn random_call(random: &mut Random) -> Call {
-    let bytes = random_received(random);
+    let list = random_list(random);
+    let bytes = random_received(random, &list.order);
     let count = CONFIDENCES - usize::from(random.once_in(12));
     let confidences = (0..count).map(|_| random.inside(255)).collect();
     Call {
         bytes,
         confidences: random.once_in(2).then_some(confidences),
+        list,
     }
 }
 

@@ -48,7 +48,7 @@ pub fn write(frames: &[u8], output: &mut [u8]) -> Result<usize, Refusal> {
         return Err(Refusal::Output);
     }
     for frame in frames.chunks(FRAME) {
-        melp::bits_of_frame(frame)?;
+        melp::bits_of_frame(frame, &melp::default_order())?;
     }
     output[..text.len()].copy_from_slice(&text);
     Ok(text.len())
@@ -118,7 +118,7 @@ pub fn line_at(text: &[u8], at: u64) -> &[u8] {
 /// The frame on the line of that number: refused 8, then 3.
 pub fn judge_frame(text: &[u8], line: usize) -> Result<[u8; FRAME], BadLine> {
     let frame = bytes_of(text).ok_or(malformed(line))?;
-    match melp::bits_of_frame(&frame) {
+    match melp::bits_of_frame(&frame, &melp::default_order()) {
         Ok(_) => Ok(frame),
         Err(refusal) => Err(BadLine { refusal, line }),
     }

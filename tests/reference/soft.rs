@@ -1,4 +1,4 @@
-//! Receiving with confidences (document 02, T-05): slow, plain, sentence by sentence.
+//! Receiving with confidences (document 02, T-05 and T-07): slow, plain, sentence by sentence.
 
 use crate::melp::{
     self, Content, FrameReading, FrameResult, PitchClass, Record, Refusal, WordReading,
@@ -68,45 +68,54 @@ pub fn choose_word(came: &[u8], confidences: &[u8]) -> WordReading {
 /// How many confidences a frame has: one for each place.
 pub const CONFIDENCES: usize = 54;
 
-/// The confidence of each logical bit: that of the place at which it stands.
-fn of_bits(confidences: &[u8]) -> [u8; 54] {
-    std::array::from_fn(|j| confidences[melp::place_of(j)])
+/// The bits of a frame and their confidences, both by logical number: refuse 2, 10, 3 or 9. A bit has the confidence of the
+/// place at which it stands.
+pub fn bits_of_frame(
+    bytes: &[u8],
+    confidences: &[u8],
+    list: &[u8],
+) -> Result<([u8; 54], [u8; 54]), Refusal> {
+    let logical = melp::bits_of_frame(bytes, list)?;
+    if confidences.len() != CONFIDENCES {
+        return Err(Refusal::Confidences);
+    }
+    let mut by_place = [0; CONFIDENCES];
+    by_place.copy_from_slice(confidences);
+    let order = melp::order_of(list)?;
+    Ok((logical, melp::from_places(&by_place, &order)))
 }
 
 /// Read a frame with an unvoiced pitch code: choose each of the four words.
-fn read_unvoiced(logical: &[u8; 54], confidences: &[u8]) -> Content {
-    let by_bit = of_bits(confidences);
+fn read_unvoiced(logical: &[u8; 54], confidences: &[u8; 54]) -> Content {
     let words = melp::received_words(logical);
-    let their_confidences = melp::received_words(&by_bit);
+    let their_confidences = melp::received_words(confidences);
     let chosen = std::array::from_fn(|w| choose_word(words[w], their_confidences[w]));
     melp::unvoiced_content(logical, chosen)
 }
 
-/// Read 54 bits with confidences: refuse 9; a voiced or erased pitch code looks at none of them.
-pub fn read_bits(logical: &[u8; 54], confidences: &[u8]) -> Result<Content, Refusal> {
-    if confidences.len() != CONFIDENCES {
-        return Err(Refusal::Confidences);
-    }
+/// Read 54 bits with their confidences, both by logical number; a voiced or erased pitch code looks at none of them.
+pub fn read_bits(logical: &[u8; 54], confidences: &[u8; 54]) -> Result<Content, Refusal> {
     match melp::class_of_bits(logical)? {
         PitchClass::Unvoiced => Ok(read_unvoiced(logical, confidences)),
         PitchClass::Erased | PitchClass::Voiced(_) => melp::read_bits(logical),
     }
 }
 
-/// Read a frame's bytes with confidences: refuse 2, 3 or 9.
-pub fn read(bytes: &[u8], confidences: &[u8]) -> Result<FrameReading, Refusal> {
-    let logical = melp::bits_of_frame(bytes)?;
+/// Read a frame's bytes with confidences: refuse 2, 10, 3 or 9.
+pub fn read(bytes: &[u8], confidences: &[u8], list: &[u8]) -> Result<FrameReading, Refusal> {
+    let (logical, confidences) = bits_of_frame(bytes, confidences, list)?;
     Ok(FrameReading {
-        content: read_bits(&logical, confidences)?,
+        content: read_bits(&logical, &confidences)?,
         sync: logical[53],
     })
 }
 
-/// Receive one frame with confidences: refuse 2, 3, 9 or 4, else the result and the next record.
+/// Receive one frame with confidences: refuse 2, 10, 3, 9 or 4, else the result and the next record.
 pub fn receive(
     record: &Record,
     bytes: &[u8],
     confidences: &[u8],
+    list: &[u8],
 ) -> Result<(FrameResult, Record), Refusal> {
-    melp::take(record, &read(bytes, confidences)?)
+    melp::take(record, &read(bytes, confidences, list)?)
 }

@@ -1,11 +1,12 @@
-//! Vectors of receiving with confidences: choosing a word, reading 54 bits, and receiving.
+//! Vectors of receiving with confidences: choosing a word, reading 54 bits, receiving, and the bits of a frame with theirs.
 
-use crate::frames::{self, flipped, frame_with, Damage};
+use crate::frames::{self, flipped, frame_with, places_of, Damage};
 use crate::layout::{bits_of_word, put, vector_of, word_of, Vector};
-use crate::melp::{self, Content, Record, Set, WordReading};
+use crate::melp::{self, Content, Order, Record, Set, WordReading};
+use crate::order_lists::List;
 use crate::random::Random;
-use crate::receiver_vectors::{counted, faulty_bytes, miscounted, receiving};
-use crate::record_vectors::{any_record, record_with, wrong_counts};
+use crate::receiver_vectors::{counted, miscounted, receiving};
+use crate::record_vectors::{any_record, record_with};
 use crate::set_bytes::bytes_of;
 use crate::set_vectors::sets;
 use crate::soft::{self, CONFIDENCES};
@@ -13,33 +14,53 @@ use crate::soft::{self, CONFIDENCES};
 // ---- The vector of a call ----
 
 /// Most confidences that a vector has.
-const MOST: usize = 56;
+pub const MOST: usize = 56;
 
 /// Confidences of a call, by place, and how many of these bytes it gets.
 #[derive(Clone, Copy)]
-struct Confidences {
+pub struct Confidences {
     bytes: [u8; MOST],
     count: usize,
 }
 
 impl Confidences {
-    /// The same confidence at each place.
-    fn even(value: u8) -> Confidences {
+    /// One for each place.
+    fn of(bytes: [u8; MOST]) -> Confidences {
         Confidences {
-            bytes: [value; MOST],
+            bytes,
             count: CONFIDENCES,
         }
     }
 
+    /// The same confidence at each place.
+    pub fn even(value: u8) -> Confidences {
+        Confidences::of([value; MOST])
+    }
+
+    /// Another confidence at each place, 1, 5, 9 and so on.
+    pub fn rising() -> Confidences {
+        Confidences::of(std::array::from_fn(|place| 4 * place as u8 + 1))
+    }
+
     /// With another confidence at the places of some logical bits.
-    fn with(mut self, bits: &[usize], value: u8) -> Confidences {
-        bits.iter()
-            .for_each(|j| self.bytes[melp::place_of(*j)] = value);
+    pub fn with(mut self, bits: &[usize], value: u8, order: &Order) -> Confidences {
+        for place in places_of(bits, order) {
+            self.bytes[place] = value;
+        }
         self
     }
 
+    /// Those that a reader has to get to see at each place, so that it finds these by logical number.
+    pub fn as_if_by_number(&self, order: &Order) -> Confidences {
+        let mut moved = *self;
+        for (place, bit) in order.iter().enumerate() {
+            moved.bytes[place] = self.bytes[usize::from(*bit)];
+        }
+        moved
+    }
+
     /// With another number of them.
-    fn sized(self, count: usize) -> Confidences {
+    pub fn sized(self, count: usize) -> Confidences {
         Confidences { count, ..self }
     }
 
@@ -49,7 +70,7 @@ impl Confidences {
     }
 
     /// Put them into a vector, their number first.
-    fn put(&self, vector: &mut Vector, at: usize) {
+    pub fn put(&self, vector: &mut Vector, at: usize) {
         vector[at] = self.count as u8;
         put(vector, at + 1, &self.bytes);
     }
@@ -70,15 +91,14 @@ fn word_vector(length: usize, number: u8, confidences: &[u8; 8]) -> Vector {
     vector
 }
 
-/// The vector of what the bits in a number are read as.
-fn reading_vector(word: u64, confidences: &Confidences) -> Vector {
+/// The vector of what the bits in a number are read as with their confidences, by logical number.
+fn reading_vector(word: u64, confidences: &[u8; 54]) -> Vector {
     let mut vector = vector_of(31);
     put(&mut vector, 1, &word.to_be_bytes());
-    confidences.put(&mut vector, 9);
-    match soft::read_bits(&bits_of_word(word), confidences.given()) {
-        Err(refusal) => vector[66] = refusal.number(),
-        Ok(Content::Erased) => vector[67] = 1,
-        Ok(Content::Accepted { set, repaired }) => {
+    put(&mut vector, 10, confidences);
+    match soft::read_bits(&bits_of_word(word), confidences).expect("a pitch code of seven bits") {
+        Content::Erased => vector[67] = 1,
+        Content::Accepted { set, repaired } => {
             put(&mut vector, 68, &bytes_of(&set));
             vector[79] = repaired;
         }
@@ -87,10 +107,33 @@ fn reading_vector(word: u64, confidences: &Confidences) -> Vector {
 }
 
 /// The vector of receiving, by value (kind 32) or in place (kind 33).
-fn receive_vector(kind: u8, record: &Record, bytes: &[u8], confidences: &Confidences) -> Vector {
-    let answer = soft::receive(record, bytes, confidences.given());
-    let mut vector = receiving(kind, record, bytes, answer);
+pub fn receive_vector(
+    kind: u8,
+    record: &Record,
+    bytes: &[u8],
+    confidences: &Confidences,
+    list: &List,
+) -> Vector {
+    let answer = soft::receive(record, bytes, confidences.given(), list.given());
+    let mut vector = receiving(kind, record, bytes, list, answer);
     confidences.put(&mut vector, 61);
+    vector
+}
+
+/// The vector of taking the bits of a frame with their confidences.
+pub fn taking_vector(bytes: &[u8], confidences: &Confidences, list: &List) -> Vector {
+    let mut vector = vector_of(35);
+    vector[16] = bytes.len() as u8;
+    put(&mut vector, 17, bytes);
+    confidences.put(&mut vector, 61);
+    list.put(&mut vector);
+    match soft::bits_of_frame(bytes, confidences.given(), list.given()) {
+        Err(refusal) => vector[26] = refusal.number(),
+        Ok((logical, by_bit)) => {
+            put(&mut vector, 27, &word_of(&logical).to_be_bytes());
+            put(&mut vector, 118, &by_bit);
+        }
+    }
     vector
 }
 
@@ -131,22 +174,27 @@ fn random_confidences<const N: usize>(random: &mut Random, changed: &[usize]) ->
     }
 }
 
-/// Confidences of a frame, once in so many times too few or too many; often word A has some of its own, so that ties in
-/// the other words show.
-fn frame_confidences(random: &mut Random, changed: &[usize], once_in: u64) -> Confidences {
+/// Confidences of a frame; often word A has some of its own, so that ties in the other words show.
+fn frame_confidences(random: &mut Random, changed: &[usize], order: &Order) -> Confidences {
     let mut bytes = random_confidences(random, changed);
     if random.once_in(2) {
-        (0..8).for_each(|j| bytes[melp::place_of(j)] = random.between(1, 255) as u8);
+        (0..8).for_each(|j| bytes[melp::place_of(j, order)] = random.between(1, 255) as u8);
     }
+    Confidences::of(bytes)
+}
+
+/// The same, once in so many times too few or too many; often the bytes past those that the call gets are 0.
+fn cut(random: &mut Random, confidences: Confidences, once_in: u64) -> Confidences {
     let count = if random.once_in(once_in) {
         random.pick(&[0, 1, 53, 53, 55, 55, MOST])
     } else {
         CONFIDENCES
     };
+    let mut cut = confidences.sized(count);
     if random.once_in(2) {
-        bytes[count..].fill(0);
+        cut.bytes[count..].fill(0);
     }
-    Confidences { bytes, count }
+    cut
 }
 
 // ---- Kind 30: choosing a word ----
@@ -170,65 +218,67 @@ pub fn word(random: &mut Random) -> Vector {
 
 /// Places that the channel changes in an unvoiced frame: mostly up to eight of the words', and sometimes one of the pitch
 /// code.
-fn word_places(random: &mut Random) -> Vec<usize> {
+fn word_places(random: &mut Random, order: &Order) -> Vec<usize> {
     let most = random.pick(&[2, 4, 8, 8, 28]);
     let count = random.between(0, most) as usize;
     let mut bits = random.some_of(&(0..28).collect::<Vec<usize>>(), count);
     if random.once_in(3) {
         bits.push(random.between(28, 34) as usize);
     }
-    bits.iter().map(|j| melp::place_of(*j)).collect()
+    places_of(&bits, order)
 }
 
 /// A set, mostly an unvoiced one, and the places that the channel changes in its frame.
-fn random_sending(random: &mut Random) -> (Set, Vec<usize>) {
+fn random_sending(random: &mut Random, order: &Order) -> (Set, Vec<usize>) {
     let set = frames::random_set(random);
     let unvoiced = Set {
         voicing: None,
         ..set
     };
     match random.below(8) {
-        0 => (set, frames::flips(random, Damage::Any, 3)),
-        1 => (unvoiced, frames::flips(random, Damage::Any, 6)),
-        2 => (unvoiced, frames::flips(random, Damage::SpareOfB, 0)),
-        _ => (unvoiced, word_places(random)),
+        0 => (set, frames::flips(random, Damage::Any, 3, order)),
+        1 => (unvoiced, frames::flips(random, Damage::Any, 6, order)),
+        2 => (unvoiced, frames::flips(random, Damage::SpareOfB, 0, order)),
+        _ => (unvoiced, word_places(random, order)),
     }
 }
 
 /// A frame after the channel, and the places that are changed in it; sometimes any 54 bits.
-fn random_frame(random: &mut Random) -> ([u8; 7], Vec<usize>) {
+fn random_frame(random: &mut Random, order: &Order) -> ([u8; 7], Vec<usize>) {
     if random.once_in(16) {
         return (frames::random_bits(random), Vec::new());
     }
-    let (set, changed) = random_sending(random);
-    let sent = melp::frame_of(&set, random.inside(1)).expect("a set in range");
+    let (set, changed) = random_sending(random, order);
+    let sent = melp::frame_of(&set, random.inside(1), order).expect("a set in range");
     (flipped(sent, &changed), changed)
 }
 
-/// The 54 bits of a frame as a number.
-fn frame_word(frame: &[u8; 7]) -> u64 {
-    word_of(&melp::bits_of_frame(frame).expect("a frame"))
+/// The vector of what a frame is read as, with some bits above its own.
+fn frame_reading(frame: &[u8; 7], confidences: &Confidences, order: &Order, above: u64) -> Vector {
+    let taken = soft::bits_of_frame(frame, confidences.given(), order);
+    let (logical, by_bit) = taken.expect("a frame and its confidences");
+    reading_vector(word_of(&logical) | above, &by_bit)
 }
 
 /// A vector of what 54 bits are read as, often with others above them.
 pub fn reading(random: &mut Random) -> Vector {
-    let (frame, changed) = random_frame(random);
+    let order = melp::default_order();
+    let (frame, changed) = random_frame(random, &order);
     let above = if random.once_in(2) {
         random.next() << 54
     } else {
         0
     };
-    let confidences = frame_confidences(random, &changed, 8);
-    reading_vector(frame_word(&frame) | above, &confidences)
+    let confidences = frame_confidences(random, &changed, &order);
+    frame_reading(&frame, &confidences, &order, above)
 }
 
-// ---- Kinds 32 and 33: receiving ----
+// ---- Kinds 32, 33 and 35: receiving, and taking the bits ----
 
-/// A vector of receiving, sometimes with several reasons to be refused.
-fn random_receive(random: &mut Random, kind: u8) -> Vector {
-    let once_in = random.pick(&[2, 24, 24, 24, 24]);
-    let record = any_record(random, once_in);
-    let (mut frame, changed) = random_frame(random);
+/// The bytes received and their confidences; once in so many times of another length or with padding bits, and with more or
+/// fewer confidences.
+fn random_received(random: &mut Random, order: &Order, once_in: u64) -> (Vec<u8>, Confidences) {
+    let (mut frame, changed) = random_frame(random, order);
     if random.once_in(once_in) {
         frames::set_padding(random, &mut frame);
     }
@@ -236,61 +286,41 @@ fn random_receive(random: &mut Random, kind: u8) -> Vector {
     if random.once_in(once_in) {
         frames::change_length(random, &mut bytes);
     }
-    let confidences = frame_confidences(random, &changed, once_in);
-    receive_vector(kind, &record, &bytes, &confidences)
+    let confidences = frame_confidences(random, &changed, order);
+    (bytes, cut(random, confidences, once_in))
+}
+
+/// Once in how many times each reason to be refused is there: mostly seldom, sometimes so often that there are several.
+fn random_rarity(random: &mut Random) -> u64 {
+    random.pick(&[2, 24, 24, 24, 24])
+}
+
+/// A vector of receiving, sometimes with several reasons to be refused.
+fn random_receive(random: &mut Random, kind: u8, list: &List) -> Vector {
+    let once_in = random_rarity(random);
+    let record = any_record(random, once_in);
+    let (bytes, confidences) = random_received(random, &list.order, once_in);
+    receive_vector(kind, &record, &bytes, &confidences, list)
 }
 
 /// A vector of receiving one frame with confidences.
-pub fn receive(random: &mut Random) -> Vector {
-    random_receive(random, 32)
+pub fn receive(random: &mut Random, list: &List) -> Vector {
+    random_receive(random, 32, list)
 }
 
 /// A vector of receiving one frame with confidences into a record in place.
-pub fn receive_in_place(random: &mut Random) -> Vector {
-    random_receive(random, 33)
+pub fn receive_in_place(random: &mut Random, list: &List) -> Vector {
+    random_receive(random, 33, list)
+}
+
+/// A vector of taking the bits of a frame with their confidences, sometimes with several reasons to be refused.
+pub fn taking(random: &mut Random, list: &List) -> Vector {
+    let once_in = random_rarity(random);
+    let (bytes, confidences) = random_received(random, &list.order, once_in);
+    taking_vector(&bytes, &confidences, list)
 }
 
 // ---- All conditions in turn ----
-
-/// Receiving with a record and some of the faults that 2, 3 and 9 refuse.
-fn faulty(kind: u8, set: &Set, faults: [bool; 3], record: &Record) -> Vector {
-    let [length, padding, number] = faults;
-    let bytes = faulty_bytes(frame_with(set, &[]), length, padding);
-    let count = match (number, set.voicing) {
-        (false, _) => CONFIDENCES,
-        (true, None) => 53,
-        (true, Some(_)) => 55,
-    };
-    receive_vector(kind, record, &bytes, &Confidences::even(200).sized(count))
-}
-
-/// Every combination of those faults with a record, of both sets, one by value and one in place.
-fn combinations(record: &Record) -> Vec<Vector> {
-    let mut vectors = Vec::new();
-    for mask in 0..8u8 {
-        let faults = std::array::from_fn(|fault| mask >> fault & 1 == 1);
-        let is_odd = (mask.count_ones() % 2) as u8;
-        let [unvoiced, voiced] = sets();
-        vectors.push(faulty(32 + is_odd, &unvoiced, faults, record));
-        vectors.push(faulty(33 - is_odd, &voiced, faults, record));
-    }
-    vectors
-}
-
-/// Every combination of the four refusals, 4 for a G2 out of range and for a wrong count of repeats; and other numbers of
-/// confidences.
-fn refusals() -> Vec<Vector> {
-    let fresh = melp::fresh_record();
-    let mut out_of_range = fresh;
-    out_of_range.last.g2 = 32;
-    let records = [fresh, out_of_range, wrong_counts()[0]];
-    let mut vectors = records.map(|record| combinations(&record)).concat();
-    for (count, set) in [(0, 0), (53, 1), (55, 0), (MOST, 1)] {
-        let word = frame_word(&frame_with(&sets()[set], &[]));
-        vectors.push(reading_vector(word, &Confidences::even(200).sized(count)));
-    }
-    vectors
-}
 
 /// Words with their confidences: length, word, confidences.
 const WORDS: [(usize, u8, [u8; 8]); 20] = [
@@ -325,86 +355,90 @@ const WORDS: [(usize, u8, [u8; 8]); 20] = [
 ];
 
 /// Logical bits of two places of each word and of one of the pitch code.
-const DOUBTED: [usize; 9] = [0, 1, 8, 9, 14, 15, 21, 22, 28];
+pub const DOUBTED: [usize; 9] = [0, 1, 8, 9, 14, 15, 21, 22, 28];
 
 /// Unvoiced frames: a tie in A as sent; two changed places without confidence in each word; the spare's syndrome among equal
 /// confidences; ties in B, C, D and everywhere as sent; most places changed.
-fn unvoiced_frames() -> Vec<([u8; 7], Confidences)> {
+fn unvoiced_frames(order: &Order) -> Vec<([u8; 7], Confidences)> {
     let [set, _] = sets();
-    let sure_but = |bits: &[usize]| Confidences::even(255).with(bits, 0);
+    let frame = |bits: &[usize]| frame_with(&set, bits, order);
+    let sure_but = |bits: &[usize]| Confidences::even(255).with(bits, 0, order);
     let mut cases = vec![
-        (frame_with(&set, &[]), sure_but(&[0, 4, 5, 7])),
-        (frame_with(&set, &DOUBTED), sure_but(&DOUBTED)),
+        (frame(&[]), sure_but(&[0, 4, 5, 7])),
+        (frame(&DOUBTED), sure_but(&DOUBTED)),
     ];
-    cases.extend(frames::SPARE_FLIPS.map(|bits| (frame_with(&set, bits), Confidences::even(7))));
+    cases.extend(frames::SPARE_FLIPS.map(|bits| (frame(bits), Confidences::even(7))));
     for (first, last) in [(8, 13), (14, 20), (21, 27), (0, 53)] {
         let bits: Vec<usize> = (first..=last).collect();
-        cases.push((frame_with(&set, &[]), sure_but(&bits)));
+        cases.push((frame(&[]), sure_but(&bits)));
     }
     let zeros = melp::fresh_record().last.set;
-    let most = frame_with(&zeros, &(4..=28).collect::<Vec<usize>>());
-    cases.push((most, Confidences::even(0).with(&[0, 1, 2, 3], 1)));
+    let most = frame_with(&zeros, &(4..=28).collect::<Vec<usize>>(), order);
+    cases.push((most, Confidences::even(0).with(&[0, 1, 2, 3], 1, order)));
     cases
 }
 
 /// Frames in which no confidence counts: voiced ones, with all 0 and with a word changed; pitch codes with two ones.
-fn other_frames() -> Vec<([u8; 7], Confidences)> {
+fn other_frames(order: &Order) -> Vec<([u8; 7], Confidences)> {
     let [unvoiced, voiced] = sets();
+    let doubted = |set: &Set, bits: &[usize]| {
+        let confidences = Confidences::even(255).with(bits, 0, order);
+        (frame_with(set, bits, order), confidences)
+    };
     vec![
-        (frame_with(&voiced, &[]), Confidences::even(0)),
-        (
-            frame_with(&voiced, &[0, 1, 8]),
-            Confidences::even(255).with(&[0, 1, 8], 0),
-        ),
-        (
-            frame_with(&unvoiced, &[28, 29]),
-            Confidences::even(255).with(&[28, 29], 0),
-        ),
+        (frame_with(&voiced, &[], order), Confidences::even(0)),
+        doubted(&voiced, &[0, 1, 8]),
+        doubted(&unvoiced, &[28, 29]),
     ]
 }
 
 /// Counts of repeats around mute, each with an accepted frame and a repeat, one by value and one in place; and wrong counts.
-fn counts_of_repeats() -> Vec<Vector> {
+fn counts_of_repeats(list: &List) -> Vec<Vector> {
     let right = [32, 33, 33, 32].iter().cycle().zip(counted());
     let wrong = [33, 32].iter().cycle().zip(miscounted());
     right
         .chain(wrong)
         .map(|(kind, (record, frame))| {
-            receive_vector(*kind, &record, &frame, &Confidences::even(200))
+            receive_vector(*kind, &record, &frame, &Confidences::even(200), list)
         })
         .collect()
 }
 
-/// Words, frames read, and frames received by value and in place in turn; every combination of refusals; and records by their
-/// counts of repeats.
+/// Words, frames read, and frames received by value and in place in turn; records by their counts of repeats; and numbers of
+/// confidences that no frame has.
 pub fn conditions() -> Vec<Vector> {
-    let mut vectors = [refusals(), counts_of_repeats()].concat();
+    let default = List::of(melp::default_order());
+    let order = &default.order;
+    let mut vectors = counts_of_repeats(&default);
     vectors.extend(
         WORDS.map(|(length, number, confidences)| word_vector(length, number, &confidences)),
     );
-    let cases = [unvoiced_frames(), other_frames()].concat();
+    let cases = [unvoiced_frames(order), other_frames(order)].concat();
     let record = record_with(0);
     for (kind, (frame, confidences)) in [32, 33].iter().cycle().zip(&cases) {
-        vectors.push(reading_vector(frame_word(frame), confidences));
-        vectors.push(receive_vector(*kind, &record, frame, confidences));
+        vectors.push(frame_reading(frame, confidences, order, 0));
+        vectors.push(receive_vector(*kind, &record, frame, confidences, &default));
+    }
+    for count in [0, 53, 55, MOST] {
+        let confidences = Confidences::even(200).sized(count);
+        vectors.push(taking_vector(&cases[0].0, &confidences, &default));
     }
     vectors
 }
 
 /// Vectors refused by 9 or 2, with one confidence or one byte more than a vector can have.
 pub fn bad_vectors() -> Vec<Vector> {
-    let [set, _] = sets();
-    let frame = frame_with(&set, &[]);
+    let default = List::of(melp::default_order());
     let many = Confidences::even(200).sized(MOST);
-    let mut vectors = vec![reading_vector(frame_word(&frame), &many)];
-    vectors[0][9] += 1;
-    for kind in [32, 33] {
-        let fresh = melp::fresh_record();
-        let mut confidences = receive_vector(kind, &fresh, &frame, &many);
-        confidences[61] += 1;
-        let mut bytes = receive_vector(kind, &fresh, &[0; 9], &many);
-        bytes[16] += 1;
-        vectors.extend([confidences, bytes]);
+    let fresh = melp::fresh_record();
+    let mut vectors = Vec::new();
+    for (bytes, at) in [(&[0; 7][..], 61), (&[0; 9], 16)] {
+        let received = [32, 33].map(|kind| receive_vector(kind, &fresh, bytes, &many, &default));
+        let taken = taking_vector(bytes, &many, &default);
+        for mut vector in [received[0], received[1], taken] {
+            vector[at] += 1;
+            vectors.push(vector);
+        }
     }
     vectors
 }

@@ -19,12 +19,12 @@ fn codebook(path: &Path, size: usize) -> Result<Vec<i64>, Refusal> {
 
 /// All twenty numbers, or the refusal: the input first, then both files, then the rows in use.
 fn spectrum(input: &[u8], folder: &Path) -> Result<Vec<i64>, Refusal> {
-    let set = melp::receive(&melp::fresh_record(), input)?.0.set;
+    let (result, _) = melp::receive(&melp::fresh_record(), input, &melp::default_order())?;
     let lsf = codebook(&folder.join("lsf.txt"), LSF_SIZE);
     let mag = codebook(&folder.join("mag.txt"), MAGNITUDE_SIZE);
     let (lsf, mag) = (lsf?, mag?);
-    let components = codebooks::lsf_values(&set, &lsf, ROW)?;
-    let magnitudes = codebooks::magnitudes(&set, &mag, ROW)?;
+    let components = codebooks::lsf_values(&result.set, &lsf, ROW)?;
+    let magnitudes = codebooks::magnitudes(&result.set, &mag, ROW)?;
     Ok([components, magnitudes].concat())
 }
 

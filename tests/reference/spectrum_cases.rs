@@ -40,14 +40,16 @@ fn known_set(voiced: bool) -> Set {
 
 /// The frame of a set in range.
 fn frame(set: &Set) -> Vec<u8> {
-    melp::frame_of(set, 0).expect("a set in range").to_vec()
+    let frame = melp::frame_of(set, 0, &melp::default_order());
+    frame.expect("a set in range").to_vec()
 }
 
 /// A frame with two ones in its pitch code.
 fn erased() -> Vec<u8> {
-    let mut bytes = melp::frame_of(&known_set(false), 0).expect("a set in range");
-    melp::flip(&mut bytes, melp::place_of(28));
-    melp::flip(&mut bytes, melp::place_of(29));
+    let order = melp::default_order();
+    let mut bytes = melp::frame_of(&known_set(false), 0, &order).expect("a set in range");
+    melp::flip(&mut bytes, melp::place_of(28, &order));
+    melp::flip(&mut bytes, melp::place_of(29, &order));
     bytes.to_vec()
 }
 
@@ -424,7 +426,10 @@ fn random_cases(cases: &Cases, random: &mut Random, count: usize) -> Result<()> 
             .collect();
         let lsf = random_text(random, &lsf);
         let mag = random_text(random, &mag);
-        let inputs: Vec<Vec<u8>> = (0..5).map(|_| frames::random_received(random)).collect();
+        let order = melp::default_order();
+        let inputs: Vec<Vec<u8>> = (0..5)
+            .map(|_| frames::random_received(random, &order))
+            .collect();
         cases.add(&format!("random-{i}"), Some(&lsf), Some(&mag), &inputs)?;
     }
     Ok(())

@@ -1,4 +1,5 @@
 //! Vectors of the independent implementation: `vectors N SEED`, of receiving with confidences alone: `vectors N SEED soft`,
+//! of the calls that take an order alone: `vectors N SEED orders`, all with the one in a file: `vectors N SEED order FILE`,
 //! each with a wrong expectation: `vectors N SEED spoilt`, those that are stored for the gate: `vectors gate`, or
 //! `vectors selftest`.
 
@@ -11,6 +12,9 @@ mod layout;
 mod level_vectors;
 mod melp;
 mod old_record;
+mod order_file;
+mod order_lists;
+mod order_vectors;
 mod random;
 mod receiver_vectors;
 mod record_vectors;
@@ -24,6 +28,7 @@ mod text_rule;
 mod text_vectors;
 
 use layout::{vector_of, Vector};
+use order_lists::List;
 use random::Random;
 use std::io::Write;
 use std::iter::once;
@@ -31,66 +36,108 @@ use std::process::ExitCode;
 
 // ---- Kinds ----
 
+/// A maker of vectors of a kind; one with an order gets the list.
+#[derive(Clone, Copy)]
+enum Maker {
+    Plain(fn(&mut Random) -> Vector),
+    Ordered(fn(&mut Random, &List) -> Vector),
+}
+
+use Maker::{Ordered, Plain};
+
+impl Maker {
+    /// A vector, with some list if it has one.
+    fn make(self, random: &mut Random) -> Vector {
+        match self {
+            Plain(make) => make(random),
+            Ordered(make) => {
+                let list = order_lists::random_list(random);
+                make(random, &list)
+            }
+        }
+    }
+}
+
 /// A maker of vectors of each kind, from kind 1 on.
-const MAKERS: [fn(&mut Random) -> Vector; 34] = [
-    coder_vectors::pack,
-    coder_vectors::class,
-    coder_vectors::code,
-    coder_vectors::word,
-    coder_vectors::parity,
-    level_vectors::first_level,
-    level_vectors::second_level,
-    level_vectors::choice,
-    receiver_vectors::receive,
-    coder_vectors::frame_of_bits,
-    coder_vectors::bits_of_frame,
-    coder_vectors::ranges,
-    coder_vectors::reading,
-    record_vectors::record,
-    record_vectors::fresh,
-    codebook_vectors::lsf_row,
-    codebook_vectors::magnitude_row,
-    codebook_vectors::lsf_values,
-    codebook_vectors::magnitudes,
-    text_vectors::lsf_text,
-    text_vectors::magnitude_text,
-    receiver_vectors::receive_in_place,
-    set_vectors::reading,
-    set_vectors::writing,
-    session_vectors::parse,
-    session_vectors::read,
-    session_vectors::writing,
-    session_vectors::header,
-    session_vectors::line,
-    soft_vectors::word,
-    soft_vectors::reading,
-    soft_vectors::receive,
-    soft_vectors::receive_in_place,
-    record_vectors::take_over,
+const MAKERS: [Maker; 37] = [
+    Ordered(coder_vectors::pack),
+    Plain(coder_vectors::class),
+    Plain(coder_vectors::code),
+    Plain(coder_vectors::word),
+    Plain(coder_vectors::parity),
+    Plain(level_vectors::first_level),
+    Plain(level_vectors::second_level),
+    Plain(level_vectors::choice),
+    Ordered(receiver_vectors::receive),
+    Ordered(coder_vectors::frame_of_bits),
+    Ordered(coder_vectors::bits_of_frame),
+    Plain(coder_vectors::ranges),
+    Plain(coder_vectors::reading),
+    Plain(record_vectors::record),
+    Plain(record_vectors::fresh),
+    Plain(codebook_vectors::lsf_row),
+    Plain(codebook_vectors::magnitude_row),
+    Plain(codebook_vectors::lsf_values),
+    Plain(codebook_vectors::magnitudes),
+    Plain(text_vectors::lsf_text),
+    Plain(text_vectors::magnitude_text),
+    Ordered(receiver_vectors::receive_in_place),
+    Plain(set_vectors::reading),
+    Plain(set_vectors::writing),
+    Plain(session_vectors::parse),
+    Plain(session_vectors::read),
+    Plain(session_vectors::writing),
+    Plain(session_vectors::header),
+    Plain(session_vectors::line),
+    Plain(soft_vectors::word),
+    Plain(soft_vectors::reading),
+    Ordered(soft_vectors::receive),
+    Ordered(soft_vectors::receive_in_place),
+    Plain(record_vectors::take_over),
+    Ordered(soft_vectors::taking),
+    Ordered(order_vectors::order),
+    Plain(order_vectors::default),
 ];
 
-/// Kinds of receiving with confidences.
-const SOFT_KINDS: [usize; 4] = [30, 31, 32, 33];
+/// Kinds of receiving.
+const RECEIVING_KINDS: [usize; 4] = [9, 22, 32, 33];
+
+/// Kinds of receiving with confidences, and of its parts.
+const SOFT_KINDS: [usize; 5] = [30, 31, 32, 33, 35];
+
+/// One vector of a random one of some kinds.
+fn vector_among(random: &mut Random, kinds: &[usize]) -> Vector {
+    let kind = random.pick(kinds);
+    MAKERS[kind - 1].make(random)
+}
 
 /// One vector of a random kind, a quarter of them of receiving.
 fn random_vector(random: &mut Random) -> Vector {
     if random.once_in(4) {
-        let way = random.pick(&[
-            receiver_vectors::receive,
-            receiver_vectors::receive_in_place,
-            soft_vectors::receive,
-            soft_vectors::receive_in_place,
-        ]);
-        return way(random);
+        return vector_among(random, &RECEIVING_KINDS);
     }
-    let maker = random.pick(&MAKERS);
-    maker(random)
+    random.pick(&MAKERS).make(random)
 }
 
 /// One vector of a random kind of receiving with confidences.
 fn soft_vector(random: &mut Random) -> Vector {
-    let kind = random.pick(&SOFT_KINDS);
-    MAKERS[kind - 1](random)
+    vector_among(random, &SOFT_KINDS)
+}
+
+/// One vector of a random kind with an order, with that list.
+fn vector_with(random: &mut Random, list: &List) -> Vector {
+    let makers = MAKERS.iter().filter_map(|maker| match maker {
+        Plain(_) => None,
+        Ordered(make) => Some(*make),
+    });
+    let make = random.pick(&makers.collect::<Vec<fn(&mut Random, &List) -> Vector>>());
+    make(random, list)
+}
+
+/// One vector of a random kind with an order.
+fn order_vector(random: &mut Random) -> Vector {
+    let list = order_lists::random_list(random);
+    vector_with(random, &list)
 }
 
 // ---- Wrong expectations ----
@@ -125,7 +172,7 @@ fn compared(vector: &Vector) -> Vec<usize> {
         8 => (10..=12).collect(),
         9 | 22 | 32 | 33 if is_given(26) => once(26).chain(46..=60).collect(),
         9 | 22 | 32 | 33 => (26..=60).collect(),
-        10 => (9..=15).collect(),
+        10 => once(16).chain(9..=15).collect(),
         11 => (11..=19).collect(),
         12 => (12..=19).collect(),
         13 if is_given(9) => vec![9],
@@ -144,11 +191,13 @@ fn compared(vector: &Vector) -> Vec<usize> {
         28 => once(18).chain(20..=25).collect(),
         29 => once(18).chain(22..=28).collect(),
         30 => (11..=13).collect(),
-        31 if is_given(66) => vec![66],
-        31 if is_given(67) => vec![66, 67],
-        31 => (66..=79).collect(),
+        31 if is_given(67) => vec![67],
+        31 => (67..=79).collect(),
         34 => (15..=30).collect(),
-        _ => unreachable!("the makers have 34 kinds"),
+        35 => (26..=34).chain(118..=171).collect(),
+        36 => (1..=3).collect(),
+        37 => (1..=54).collect(),
+        _ => unreachable!("the makers have 37 kinds"),
     }
 }
 
@@ -172,7 +221,7 @@ fn spoilt_vector(random: &mut Random) -> Vector {
 fn good_vectors(random: &mut Random) -> Vec<Vector> {
     let mut vectors = Vec::new();
     for maker in MAKERS {
-        vectors.extend((0..7).map(|_| maker(random)));
+        vectors.extend((0..7).map(|_| maker.make(random)));
     }
     vectors.extend(coder_vectors::conditions());
     vectors.extend(record_vectors::conditions());
@@ -182,11 +231,12 @@ fn good_vectors(random: &mut Random) -> Vec<Vector> {
     vectors.extend(set_vectors::conditions());
     vectors.extend(session_vectors::conditions());
     vectors.extend(soft_vectors::conditions());
+    vectors.extend(order_vectors::conditions());
     vectors
 }
 
-/// The kind that hands a record on after a refusal too, so all its bytes are spoilt both times.
-const TAKE_OVER: u8 = 34;
+/// Kinds of which all bytes say something after a refusal too, so they are spoilt both times: a record taken over, an order.
+const SPOILT_TWICE: [u8; 2] = [34, 36];
 
 /// Of each kind and of each list of compared bytes one vector as often as it has such bytes, wrong in one of them each;
 /// and one that is wrong in the first byte, mostly the refusal, where that is 0, and one where it is not.
@@ -195,14 +245,14 @@ fn wrong_vectors(random: &mut Random) -> Vec<Vector> {
     for maker in MAKERS {
         let mut seen: Vec<(Vec<usize>, bool)> = Vec::new();
         for _ in 0..200 {
-            let vector = maker(random);
+            let vector = maker.make(random);
             let bytes = compared(&vector);
             let refused = vector[bytes[0]] != 0;
             if seen.contains(&(bytes.clone(), refused)) {
                 continue;
             }
             let is_new = seen.iter().all(|(others, _)| *others != bytes);
-            let is_whole = is_new || vector[0] == TAKE_OVER;
+            let is_whole = is_new || SPOILT_TWICE.contains(&vector[0]);
             let count = if is_whole { bytes.len() } else { 1 };
             vectors.extend(bytes[..count].iter().map(|at| changed(&vector, *at)));
             seen.push((bytes, refused));
@@ -219,9 +269,9 @@ fn vectors_of_no_set(random: &mut Random) -> Vec<Vector> {
     let mut vectors = Vec::new();
     for kind in SET_KINDS {
         for (voiced, at, byte) in [(1, 1, 2), (0, 11, 1)] {
-            let mut vector = MAKERS[kind - 1](random);
+            let mut vector = MAKERS[kind - 1].make(random);
             while vector[1] != voiced {
-                vector = MAKERS[kind - 1](random);
+                vector = MAKERS[kind - 1].make(random);
             }
             vector[at] = byte;
             vectors.push(vector);
@@ -232,9 +282,9 @@ fn vectors_of_no_set(random: &mut Random) -> Vec<Vector> {
 
 /// Vectors of no kind, or with an argument that no vector has.
 fn bad_vectors(random: &mut Random) -> Vec<Vector> {
-    let mut vectors = vec![vector_of(0), vector_of(35), vector_of(255)];
+    let mut vectors = vec![vector_of(0), vector_of(38), vector_of(255)];
     let with = |kind: usize, at: usize, bytes: &[u8], random: &mut Random| {
-        let mut vector = MAKERS[kind - 1](random);
+        let mut vector = MAKERS[kind - 1].make(random);
         layout::put(&mut vector, at, bytes);
         vector
     };
@@ -251,6 +301,7 @@ fn bad_vectors(random: &mut Random) -> Vec<Vector> {
     vectors.extend(vectors_of_no_set(random));
     vectors.extend(session_vectors::bad_vectors());
     vectors.extend(soft_vectors::bad_vectors());
+    vectors.extend(order_vectors::bad_vectors());
     vectors
 }
 
@@ -261,7 +312,12 @@ const LEFT: usize = 100;
 fn write_gate(output: &mut impl Write) -> std::io::Result<()> {
     let mut random = Random::new(1);
     let good = good_vectors(&mut random);
-    let wrong = [wrong_vectors(&mut random), bad_vectors(&mut random)].concat();
+    let wrong = [
+        wrong_vectors(&mut random),
+        order_vectors::wrong_vectors(),
+        bad_vectors(&mut random),
+    ]
+    .concat();
     for vector in good.iter().chain(&wrong) {
         output.write_all(vector)?;
     }
@@ -292,7 +348,7 @@ fn write_vectors(
     output: &mut impl Write,
     count: u64,
     seed: u64,
-    maker: fn(&mut Random) -> Vector,
+    maker: impl Fn(&mut Random) -> Vector,
 ) -> std::io::Result<()> {
     let mut random = Random::new(seed);
     for _ in 0..count {
@@ -301,22 +357,42 @@ fn write_vectors(
     Ok(())
 }
 
+/// Write so many vectors with the order in a file.
+fn write_in_order(
+    output: &mut impl Write,
+    count: u64,
+    seed: u64,
+    file: &str,
+) -> std::io::Result<()> {
+    let told = |error: String| std::io::Error::other(format!("{file}: {error}"));
+    let text = std::fs::read(file).map_err(|error| told(error.to_string()))?;
+    let list = List::of(order_file::order_in(&text).map_err(told)?);
+    write_vectors(output, count, seed, |random| vector_with(random, &list))
+}
+
+/// How the program is called.
+const USAGE: &str =
+    "usage: vectors N SEED [soft | orders | order FILE | spoilt] | vectors gate | vectors selftest";
+
 fn main() -> ExitCode {
     let arguments: Vec<String> = std::env::args().skip(1).collect();
     let words: Vec<&str> = arguments.iter().map(String::as_str).collect();
     let number = |word: &str| word.parse().expect("a number");
     let mut output = std::io::BufWriter::new(std::io::stdout().lock());
+    let mut write = |count, seed, maker: fn(&mut Random) -> Vector| {
+        write_vectors(&mut output, number(count), number(seed), maker)
+    };
     let written = match words[..] {
         ["selftest"] => return selftest(),
+        [count, seed] => write(count, seed, random_vector),
+        [count, seed, "soft"] => write(count, seed, soft_vector),
+        [count, seed, "orders"] => write(count, seed, order_vector),
+        [count, seed, "spoilt"] => write(count, seed, spoilt_vector),
+        [count, seed, "order", file] => {
+            write_in_order(&mut output, number(count), number(seed), file)
+        }
         ["gate"] => write_gate(&mut output),
-        [count, seed] => write_vectors(&mut output, number(count), number(seed), random_vector),
-        [count, seed, "soft"] => {
-            write_vectors(&mut output, number(count), number(seed), soft_vector)
-        }
-        [count, seed, "spoilt"] => {
-            write_vectors(&mut output, number(count), number(seed), spoilt_vector)
-        }
-        _ => panic!("usage: vectors N SEED [soft | spoilt] | vectors gate | vectors selftest"),
+        _ => panic!("{}", USAGE),
     };
     match written.and_then(|()| output.flush()) {
         Ok(()) => ExitCode::SUCCESS,

@@ -9,6 +9,7 @@ use native.Mathlib.Omega.{arith}
 use native.Mathlib.Decide.{ℕ-discrete}
 use lib.Dec.{T, eqb, eqb→eq}
 use lib.ListN.{getD}
+use Rattle.bits.specs.Lists.{every}
 
 -- the halves of a test of two
 pub and-left : (a b : Bool) → T (a && b) → T a
@@ -58,12 +59,7 @@ pub implies-at : (a b : Bool) → T (implies a b) → a ≡ true → T b
 implies-at true b t h = t
 implies-at false b t h = absurd (false≢true h)
 
--- a test at every number below n
-abbrev pub every : ℕ → (ℕ → Bool) → Bool
-every zero f = true
-every (suc n) f = f n && every n f
-
--- it holds at each of them
+-- a test that passes at every number below n passes at each
 pub every-at : (n : ℕ) (f : ℕ → Bool) → T (every n f) → (k : ℕ) → k < n → T (f k)
 every-at zero f t k h = absurd (not-suc-le-zero h)
 every-at (suc n) f t k h = go (every-at n f (and-right (f n) (every n f) t) k) (ℕ-discrete k n)

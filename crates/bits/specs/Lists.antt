@@ -1,8 +1,14 @@
--- Claims about lists, and what a lent list holds after a call or a read. Helpers of every section of document 01.
+-- Tests of numbers, claims about lists, and what a lent list holds after a call or a read. Helpers of every section of document 01.
 use Prim.Native.Nat.{ℕ, zero, suc}
 use mathlib.Core.Path.{_≡_}
+use mathlib.Core.Bool.{Bool, true, _&&_}
 use mathlib.Core.List.{List, [], _∷_, _++_}
 use lib.ListN.{length, take, drop}
+
+-- a test at every number below n
+abbrev pub every : ℕ → (ℕ → Bool) → Bool
+every zero f = true
+every (suc n) f = f n && every n f
 
 -- a claim about every element
 abbrev pub Every : {A : Type 0} → (A → Type 0) → List A → Type 0

@@ -1,12 +1,18 @@
 -- Demands 2 and 3 for the calls of the code: their contracts imply the model's step, so the laws for any such calls hold of them.
 -- Assumes nothing.
-use Rattle.order.specs.Order.{defaultOrder}
-use Rattle.order.proofs.DefaultOrder.{default-order}
-use Rattle.damage.proofs.Neighbours.{seven-neighbours-correctable}
+use mathlib.Core.Bool.{not}
+use mathlib.Core.List.{[], _∷_}
+use lib.ListN.{length}
+use borrow.Author.Tests.{le-ltb}
+use Rattle.bits.specs.Refusals.{firstRefusal}
+use Rattle.bits.proofs.Tests.{true-T}
+use Rattle.order.specs.Order.{isOrder}
+use Rattle.order.proofs.Orders.{is-order}
+use Rattle.sets.specs.Sets.{sendable}
 use Rattle.frame.specs.Packing.{packAnswer, packWrites}
 use Rattle.calls.specs.Calls.{PackStep, ReceiveStep}
 use Rattle.calls.specs.CodeCalls.{CodePacks, CodeReceivesBy, CodeReceives}
-use Rattle.calls.specs.Demands.{Demand2, Demand3, SessionsHad}
+use Rattle.calls.specs.Demands.{Demand2, Demand3, SessionsHad, OrdersPack}
 use Rattle.calls.proofs.Demand2.{defined-return, calls-return}
 use Rattle.calls.proofs.Demand3.{claim}
 use Rattle.calls.proofs.PackingCalls.{code-packs, pack-had}
@@ -15,14 +21,18 @@ use Rattle.calls.proofs.Sessions.{sessions}
 
 pub demand-2 : Demand2
 demand-2 = record {
-  code = calls-return defaultOrder default-order CodePacks code-packs CodeReceives code-receives;
+  code = calls-return CodePacks code-packs CodeReceives code-receives;
   defined = defined-return;
-  calls = λ ord o. calls-return ord o (PackStep ord) (λ c k. k) (ReceiveStep ord) (λ d l. l);
+  calls = calls-return PackStep (λ c k. k) ReceiveStep (λ d l. l);
 }
 
 pub demand-3 : Demand3
-demand-3 = claim defaultOrder default-order 7 seven-neighbours-correctable CodePacks code-packs CodeReceives code-receives
+demand-3 = claim CodePacks code-packs CodeReceives code-receives
 
 pub sessions-had : SessionsHad
 unfolding packAnswer packWrites
-sessions-had = sessions defaultOrder CodePacks code-packs (λ s x. pack-had (x .set) s (x .lent)) CodeReceivesBy receive-had
+sessions-had = sessions CodePacks code-packs pack-had CodeReceivesBy receive-had
+
+pub orders-pack : OrdersPack
+orders-pack ord o set t lent h i =
+    firstRefusal ((le-ltb (length lent) 7 h i, 1) ∷ (not (true-T (isOrder ord) (is-order ord o) i), 10) ∷ (not (true-T (sendable set) t i), 5) ∷ [])

@@ -8,7 +8,7 @@ use lib.Dec.{T}
 use Rattle.order.specs.Order.{Order}
 use Rattle.sets.specs.Sets.{indicesIn, sendable}
 use Rattle.frame.specs.Layout.{frame}
-use Rattle.damage.specs.Flips.{logicalFlips, Correctable, Within}
+use Rattle.bursts.specs.Flips.{logicalFlips, Correctable, Within}
 use Rattle.damage.proofs.AnyOrder.{arrived}
 use Rattle.sets.specs.declared.ParameterSet.{ParameterSet}
 use Rattle.sets.specs.declared.ParameterSet.the-variants.{Unvoiced, Voiced}

@@ -1,11 +1,11 @@
 -- The frames of two lists of calls, none of them refused: a row for each packing call with the receiving call that got its frame.
 -- Assumes nothing.
-use mathlib.Core.Path.{_≡_, refl, ap, ap₂, _∙_, subst}
+use mathlib.Core.Path.{_≡_, refl, ap, _∙_, subst}
 use mathlib.Core.Bool.{Bool}
 use mathlib.Core.List.{List, [], _∷_, map, nil≢cons, cons≢nil, head-eq-of-cons-eq, tail-eq-of-cons-eq}
 use Prim.Native.Nat.{ℕ, suc}
 use lib.Dec.{T}
-use Rattle.order.specs.Order.{through}
+use Rattle.order.specs.Order.{Order, through}
 use Rattle.sets.specs.Sets.{sendable}
 use Rattle.frame.specs.Layout.{frame}
 use Rattle.damage.proofs.AnyOrder.{arrived}
@@ -16,17 +16,25 @@ use Rattle.receiver.specs.declared.Received.{Received}
 use Rattle.receiver.proofs.Results.{resultIn}
 use Rattle.receiver.proofs.Refusals.{not-refused-only}
 use Rattle.calls.specs.Model.{PackKind, ReceiveKind}
-use Rattle.calls.specs.Calls.{PackCall, setIn, packCallRefusal, sent, PackStep, PackRun}
-use Rattle.calls.specs.Calls.{ReceiveCall, frameIn, receiveCallRefusal, ReceiveStep, ReceiveRun, channel}
+use Rattle.calls.specs.Calls.{PackCall, packOrder, setIn, packCallRefusal, sent, PackStep, PackRun}
+use Rattle.calls.specs.Calls.{ReceiveCall, receiveOrder, frameIn, receiveCallRefusal, ReceiveStep, ReceiveRun, channel}
 use Rattle.calls.specs.Frames.{Row, setOf}
-use Rattle.calls.proofs.Steps.{pack-sendable, pack-sent, receive-answer, receive-left}
+use Rattle.calls.proofs.Steps.{pack-order, pack-sendable, pack-sent, receive-answer, receive-left}
 
--- a call that keeps to the model and is not refused
+-- a call that keeps to the model, is not refused and is lent the order
 abbrev pub PacksFrame : List ℕ → {P : PackKind} → PackCall P → Type 0
-PacksFrame ord c = PackStep ord c × (packCallRefusal c ≡ 0)
+PacksFrame ord c = (PackStep c × (packCallRefusal c ≡ 0)) × (packOrder c ≡ ord)
 
 abbrev pub TakesFrame : List ℕ → {R : ReceiveKind} → ReceiveCall R → Type 0
-TakesFrame ord c = ReceiveStep ord c × (receiveCallRefusal c ≡ 0)
+TakesFrame ord c = (ReceiveStep c × (receiveCallRefusal c ≡ 0)) × (receiveOrder c ≡ ord)
+
+-- the frame that such a call packs
+pub packs-frame : (ord : List ℕ) {P : PackKind} (c : PackCall P) → PacksFrame ord c → sent c ≡ frame ord (setIn c) (c .given)
+packs-frame ord c k = pack-sent c (k .0 .0) (k .0 .1) ∙ ap (λ (o : List ℕ). frame o (setIn c) (c .given)) (k .1)
+
+-- and that the order is one
+pub packs-order : (ord : List ℕ) {P : PackKind} (c : PackCall P) → PacksFrame ord c → Order ord
+packs-order ord c k = subst Order (k .1) (pack-order c (k .0 .0) (k .0 .1))
 
 module _ (ord : List ℕ) {P : PackKind} {R : ReceiveKind} where
   -- the frame that a row's receiver gets
@@ -35,6 +43,7 @@ module _ (ord : List ℕ) {P : PackKind} {R : ReceiveKind} where
 
   -- what is known of a row whose receiver has the record r, and the clean receiver u
   pub record Known (r u : Record) (w : Row P R) : Type 0 where
+    pub is-order : Order ord
     pub may-send : T (sendable (setOf w))
     pub is-sent : sent (w .packing) ≡ frame ord (setOf w) (w .packing .given)
     pub is-valid : T (valid r)
@@ -63,15 +72,18 @@ module _ (ord : List ℕ) {P : PackKind} {R : ReceiveKind} where
   row-known : (r u : Record) (fl : ℕ → Bool) (p : PackCall P) (q : ReceiveCall R) → PacksFrame ord p → TakesFrame ord q → q .given ≡ r → frameIn q ≡ through fl (sent p)
       → Known r u (rowOf u fl p q)
   row-known r u fl p q k l g e =
-      let same : frameIn q ≡ arrived ord (setIn p) (p .given) fl = e ∙ ap (through fl) (pack-sent ord p (k .0) (k .1)) in
-      let there : receive ord (q .given) (frameIn q) ≡ receive ord r (arrived ord (setIn p) (p .given) fl) = ap₂ (receive ord) g same in
-      let answer = receive-answer ord q (l .0) (l .1) ∙ ap (λ (y : Received). y .answer) there in
+      let same : frameIn q ≡ arrived ord (setIn p) (p .given) fl = e ∙ ap (through fl) (packs-frame ord p k) in
+      let there : receive (receiveOrder q) (q .given) (frameIn q) ≡ receive ord r (arrived ord (setIn p) (p .given) fl) = λ i. receive (l .1 i) (g i) (same i) in
+      let answer = receive-answer q (l .0 .0) (l .0 .1) ∙ ap (λ (y : Received). y .answer) there in
       record {
-        may-send = pack-sendable ord p (k .0) (k .1);
-        is-sent = pack-sent ord p (k .0) (k .1);
-        is-valid = subst (λ (y : Record). T (valid y)) g (not-refused-only (q .given) (frameIn q) (R .covers (q .given) (q .arguments) (l .1)) .1);
+        is-order = packs-order ord p k;
+        may-send = pack-sendable p (k .0 .0) (k .0 .1);
+        is-sent = packs-frame ord p k;
+        is-valid =
+            subst (λ (y : Record). T (valid y)) g
+            (not-refused-only (receiveOrder q) (q .given) (frameIn q) (R .covers (q .given) (q .arguments) (l .0 .1)) .1);
         answers = answer;
-        leaves = receive-left ord q (l .0) (l .1) ∙ ap (λ (y : Received). y .next) there;
+        leaves = receive-left q (l .0 .0) (l .0 .1) ∙ ap (λ (y : Received). y .next) there;
         result-is = ap resultIn answer;
         clean-is = refl;
       }

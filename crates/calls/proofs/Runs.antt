@@ -30,6 +30,11 @@ module _ {C S : Type 0} (given left : C → S) (Keeps : C → Type 0) where
   run-every P keeps s [] h = tt
   run-every P keeps s (c ∷ cs) h = (keeps c (h .1), run-every P keeps (left c) cs (h .2))
 
+  -- what holds of every call beside the contracts
+  pub run-with : (P : C → Type 0) (s : S) (cs : List C) → Run given left Keeps s cs → Every P cs → Run given left (λ c. Keeps c × P c) s cs
+  run-with P s [] h e = tt
+  run-with P s (c ∷ cs) h e = (h .0, (h .1, e .0), run-with P (left c) cs (h .2) (e .1))
+
   -- the calls that are not refused follow one another, since a refused one leaves the state
   pub run-unrefused : (refusal : C → ℕ) → ((c : C) (n : ℕ) → Keeps c → refusal c ≡ suc n → left c ≡ given c) → (s : S) (cs : List C)
       → Run given left Keeps s cs → Run given left (λ c. Keeps c × (refusal c ≡ 0)) s (unrefused refusal cs)

@@ -2,7 +2,6 @@
 -- Assumes nothing.
 use mathlib.Core.Path.{_≡_, refl, ap, _∙_, subst⁻¹}
 use mathlib.Core.List.{List, [], _∷_, map}
-use Rattle.order.specs.Order.{defaultOrder}
 use Rattle.records.specs.OldRecords.{withCount, takenOver}
 use Rattle.records.specs.declared.OldRecord.{OldRecord}
 use Rattle.records.specs.declared.Record.{Record}
@@ -21,19 +20,19 @@ use Rattle.calls.proofs.SoftCalls.{soft-owes}
 
 -- what the receiver gives for a call
 abbrev pub newCall : Record → Passed → Received
-newCall r (plain bytes) = receive defaultOrder r bytes
-newCall r (soft bytes confidences) = softReceive defaultOrder r bytes confidences
+newCall r (plain order bytes) = receive order r bytes
+newCall r (soft order bytes confidences) = softReceive order r bytes confidences
 
 -- a call of the code gives that, in each way
 owed : (way : Way) (x : Passed) (given : Record) (answer : ReceiveAnswer) (left : Record) → CodeReceivesAs way x given answer left
     → (answer ≡ newCall given x .answer) × (left ≡ newCall given x .next)
-owed way (plain bytes) given answer left k = receive-owes way (receiveCall given bytes answer left) k
-owed way (soft bytes confidences) given answer left k = soft-owes way _ k
+owed way (plain order bytes) given answer left k = receive-owes way (receiveCall order given bytes answer left) k
+owed way (soft order bytes confidences) given answer left k = soft-owes way _ k
 
 -- from a record that was taken over it is what the old record leads to
 kept : (old : OldRecord) (x : Passed) → newCall (withCount old) x ≡ inStep (oldCall old x)
-kept old (plain bytes) = taken-over old defaultOrder bytes .plain
-kept old (soft bytes confidences) = taken-over old defaultOrder bytes .soft confidences
+kept old (plain order bytes) = taken-over old order bytes .plain
+kept old (soft order bytes confidences) = taken-over old order bytes .soft confidences
 
 -- so a call of the code keeps in step
 call-kept : (old : OldRecord) (c : AnyCall) → CodeReceivesAny c → c .given ≡ withCount old → anyOutcome c ≡ outcomeInStep (oldModel old (c .passed))

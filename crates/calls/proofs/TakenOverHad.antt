@@ -21,8 +21,8 @@ callsOf r (x ∷ xs) = callOf r (x .1) ∷ callsOf (newCall r (x .1) .next) xs
 
 -- each is one of the code
 call-had : (way : Way) (r : Record) (x : Passed) → CodeReceivesAs way x r (newCall r x .answer) (newCall r x .next)
-call-had way r (plain bytes) = receive-had way r bytes
-call-had way r (soft bytes confidences) = soft-made r bytes confidences way
+call-had way r (plain order bytes) = receive-had way r (record { order = order; frame = bytes })
+call-had way r (soft order bytes confidences) = soft-made order r bytes confidences way
 
 calls-run : (r : Record) (xs : List (Way × Passed)) → AnyRun r (callsOf r xs)
 calls-run r [] = tt

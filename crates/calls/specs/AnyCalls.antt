@@ -10,10 +10,10 @@ use Rattle.calls.specs.Calls.{Run}
 use Rattle.calls.specs.CodeCalls.{receiveCall, Way, CodeReceivesBy}
 use Rattle.calls.specs.SoftCalls.{CodeReceivesSoft}
 
--- what a call is passed besides the record: a frame, or a frame and confidences
+-- what a call is passed besides the record: an order and a frame, or an order, a frame and confidences
 pub data Passed : Type 0 where
-  plain : List ℕ → Passed
-  soft : List ℕ → List ℕ → Passed
+  plain : List ℕ → List ℕ → Passed
+  soft : List ℕ → List ℕ → List ℕ → Passed
 
 -- a call: what it was passed, the record it was given, its answer, and the record that it returned or left
 pub record AnyCall : Type 0 where
@@ -28,9 +28,9 @@ anyOutcome c = record { answer = answerOf (c .answer); state = c .left }
 
 -- one of the code's four, made in one of two ways
 abbrev pub CodeReceivesAs : Way → Passed → Record → ReceiveAnswer → Record → Type 0
-CodeReceivesAs way (plain bytes) given answer left = CodeReceivesBy way (receiveCall given bytes answer left)
-CodeReceivesAs way (soft bytes confidences) given answer left =
-    CodeReceivesSoft way (record { frame = bytes; confidences = confidences; given = given; answer = answer; left = left })
+CodeReceivesAs way (plain order bytes) given answer left = CodeReceivesBy way (receiveCall order given bytes answer left)
+CodeReceivesAs way (soft order bytes confidences) given answer left =
+    CodeReceivesSoft way (record { order = order; frame = bytes; confidences = confidences; given = given; answer = answer; left = left })
 
 abbrev pub CodeReceivesAny : AnyCall → Type 0
 CodeReceivesAny c = (way : Way) × CodeReceivesAs way (c .passed) (c .given) (c .answer) (c .left)

@@ -20,7 +20,10 @@ pub record PackCall (P : PackKind) : Type 0 where
   pub answer : PackAnswer
   pub output : List ℕ
 
--- the set that it is to pack, and the number that refuses it, 0 is none
+-- the order that it is lent, the set that it is to pack, and the number that refuses it, 0 is none
+abbrev pub packOrder : {P : PackKind} → PackCall P → List ℕ
+packOrder {P} c = P .order (c .arguments)
+
 abbrev pub setIn : {P : PackKind} → PackCall P → ParameterSet
 setIn {P} c = P .set (c .arguments)
 
@@ -54,7 +57,10 @@ pub record ReceiveCall (R : ReceiveKind) : Type 0 where
   pub answer : ReceiveAnswer
   pub left : Record
 
--- the frame that it gets, and the number that refuses it, 0 is none
+-- the order that it is lent, the frame that it gets, and the number that refuses it, 0 is none
+abbrev pub receiveOrder : {R : ReceiveKind} → ReceiveCall R → List ℕ
+receiveOrder {R} c = R .order (c .arguments)
+
 abbrev pub frameIn : {R : ReceiveKind} → ReceiveCall R → List ℕ
 frameIn {R} c = R .frame (c .arguments)
 
@@ -71,14 +77,14 @@ lentAfter (done bytes) lent = bytes ++ drop 7 lent
 lentAfter (refused n) lent = lent
 
 -- a call does from the state it was given what the model does from there
-module _ (ord : List ℕ) {P : PackKind} (c : PackCall P) where
+module _ {P : PackKind} (c : PackCall P) where
   pub record PackStep : Type 0 where
-    pub outcome : packOutcome c ≡ packModel P ord (c .given) (c .arguments)
+    pub outcome : packOutcome c ≡ packModel P (c .given) (c .arguments)
     pub output : c .output ≡ lentAfter (packOutcome c .answer) (P .lent (c .arguments))
 
-module _ (ord : List ℕ) {R : ReceiveKind} (c : ReceiveCall R) where
+module _ {R : ReceiveKind} (c : ReceiveCall R) where
   abbrev pub ReceiveStep : Type 0
-  ReceiveStep = receiveOutcome c ≡ receiveModel R ord (c .given) (c .arguments)
+  ReceiveStep = receiveOutcome c ≡ receiveModel R (c .given) (c .arguments)
 
 -- a list of calls from a state: each keeps its contract, and each later one is given the state that the one before it returned or left
 abbrev pub Run : {C S : Type 0} → (C → S) → (C → S) → (C → Type 0) → S → List C → Type 0

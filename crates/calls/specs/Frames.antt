@@ -7,7 +7,7 @@ use mathlib.Core.List.{List}
 use Rattle.bits.specs.Bits.{ones}
 use Rattle.sets.specs.Sets.{indicesIn}
 use Rattle.order.specs.Fields.{wordA, pitchBits}
-use Rattle.damage.specs.Flips.{logicalFlips, Correctable, protectedFlips, Within}
+use Rattle.bursts.specs.Flips.{logicalFlips, Correctable, protectedFlips, Within}
 use Rattle.sets.specs.declared.ParameterSet.{ParameterSet}
 use Rattle.receiver.specs.Steps.{kindOf}
 use Rattle.receiver.specs.declared.FrameResult.{FrameResult}

@@ -30,33 +30,37 @@ abbrev pub outcomes : {X A S : Type 0} → (S → X → Outcome A S) → S → L
 outcomes model s [] = []
 outcomes model s (x ∷ xs) = model s x ∷ outcomes model (model s x .state) xs
 
--- a kind of packing call: what it is passed besides the sync bit, the set and the lent output therein, and the number that refuses it, 0 is none
+-- a kind of packing call: what it is passed besides the sync bit, the order of the bits, the set and the lent output therein, and the number that
+-- refuses it, 0 is none
 pub record PackKind : Type 1 where
   pub Arguments : Type 0
+  pub order : Arguments → List ℕ
   pub set : Arguments → ParameterSet
   pub lent : Arguments → List ℕ
   pub refusal : Bool → Arguments → ℕ
-  -- what the table refuses of a set and an output, it refuses too
-  pub covers : (sync : Bool) (x : Arguments) → refusal sync x ≡ 0 → packRefusal (set x) (length (lent x)) ≡ 0
+  -- what the table refuses of an order, a set and an output, it refuses too
+  pub covers : (sync : Bool) (x : Arguments) → refusal sync x ≡ 0 → packRefusal (order x) (set x) (length (lent x)) ≡ 0
 
--- packing: a call that is refused gives its number and the sync bit stays; any other gives the frame of the set with this sync bit, which changes
+-- packing: a call that is refused gives its number and the sync bit stays; any other gives the frame of the set with this sync bit, in its own order, and
+-- the sync bit changes
 abbrev pub packUnless : ℕ → List ℕ → Bool → ParameterSet → Outcome (List ℕ) Bool
 packUnless zero ord sync set = record { answer = done (frame ord set sync); state = not sync }
 packUnless (suc n) ord sync set = record { answer = refused (suc n); state = sync }
 
-abbrev pub packModel : (P : PackKind) → List ℕ → Bool → P .Arguments → Outcome (List ℕ) Bool
-packModel P ord sync x = packUnless (P .refusal sync x) ord sync (P .set x)
+abbrev pub packModel : (P : PackKind) → Bool → P .Arguments → Outcome (List ℕ) Bool
+packModel P sync x = packUnless (P .refusal sync x) (P .order x) sync (P .set x)
 
--- a kind of receiving call: what it is passed besides the record, the frame therein, and the number that refuses it, 0 is none
+-- a kind of receiving call: what it is passed besides the record, the order and the frame therein, and the number that refuses it, 0 is none
 pub record ReceiveKind : Type 1 where
   pub Arguments : Type 0
+  pub order : Arguments → List ℕ
   pub frame : Arguments → List ℕ
   pub refusal : Record → Arguments → ℕ
-  -- what the table refuses of a frame and a record, it refuses too
-  pub covers : (r : Record) (x : Arguments) → refusal r x ≡ 0 → receiveRefusal r (frame x) ≡ 0
+  -- what the table refuses of an order, a frame and a record, it refuses too
+  pub covers : (r : Record) (x : Arguments) → refusal r x ≡ 0 → receiveRefusal (order x) r (frame x) ≡ 0
 
 -- receiving: a call that is refused gives its number and the record stays; any other gives the result and the next record that the
--- definition of the receiver has for the bits received and this record
+-- definition of the receiver has for the bits received, in the call's own order, and this record
 abbrev pub answerOf : ReceiveAnswer → Answer FrameResult
 answerOf (Result x) = done x
 answerOf (Refused n) = refused n
@@ -64,22 +68,35 @@ answerOf (Refused n) = refused n
 abbrev pub outcomeOf : Received → Outcome FrameResult Record
 outcomeOf y = record { answer = answerOf (y .answer); state = y .next }
 
-abbrev pub receiveModel : (R : ReceiveKind) → List ℕ → Record → R .Arguments → Outcome FrameResult Record
-receiveModel R ord r x = outcomeOf (receiveUnless (R .refusal r x) ord r (R .frame x))
+abbrev pub receiveModel : (R : ReceiveKind) → Record → R .Arguments → Outcome FrameResult Record
+receiveModel R r x = outcomeOf (receiveUnless (R .refusal r x) (R .order x) r (R .frame x))
 
--- document 01's own calls, which only the table refuses: packing is passed a set and a lent output, receiving a frame
+-- document 01's own calls with the order that document 02, T-07, lends them, which only the table refuses: packing is passed an order, a set and a lent
+-- output, receiving an order and a frame
 pub record PackArguments : Type 0 where
+  pub order : List ℕ
   pub set : ParameterSet
   pub lent : List ℕ
 
 abbrev pub packKind : PackKind
 packKind = record {
   Arguments = PackArguments;
+  order = λ x. x .order;
   set = λ x. x .set;
   lent = λ x. x .lent;
-  refusal = λ sync x. packRefusal (x .set) (length (x .lent));
+  refusal = λ sync x. packRefusal (x .order) (x .set) (length (x .lent));
   covers = λ sync x e. e;
 }
 
+pub record ReceiveArguments : Type 0 where
+  pub order : List ℕ
+  pub frame : List ℕ
+
 abbrev pub receiveKind : ReceiveKind
-receiveKind = record { Arguments = List ℕ; frame = λ bytes. bytes; refusal = receiveRefusal; covers = λ r bytes e. e }
+receiveKind = record {
+  Arguments = ReceiveArguments;
+  order = λ x. x .order;
+  frame = λ x. x .frame;
+  refusal = λ r x. receiveRefusal (x .order) r (x .frame);
+  covers = λ r x e. e;
+}

@@ -5,7 +5,6 @@ use mathlib.Core.List.{List, [], _∷_, map}
 use contract.Lifetimes.{Lfts}
 use borrow.Fn.World.{ArgsD, ResD}
 use denote.Triple.Clauses.{AtExit}
-use Rattle.order.specs.Order.{defaultOrder}
 use Rattle.records.specs.OldRecords.{oldRefusal, withCount}
 use Rattle.records.specs.declared.OldRecord.{OldRecord}
 use Rattle.records.specs.declared.Record.{Record}
@@ -34,8 +33,8 @@ pub record CodeTakesOver (t : TakingCall) : Type 0 where
 
 -- what the old receiver gives for a receiving call
 abbrev pub oldCall : OldRecord → Passed → OldReceived
-oldCall old (plain bytes) = oldReceive defaultOrder old bytes
-oldCall old (soft bytes confidences) = oldSoftReceive defaultOrder old bytes confidences
+oldCall old (plain order bytes) = oldReceive order old bytes
+oldCall old (soft order bytes confidences) = oldSoftReceive order old bytes confidences
 
 abbrev pub oldModel : OldRecord → Passed → Outcome FrameResult OldRecord
 oldModel old x = record { answer = answerOf (oldCall old x .answer); state = oldCall old x .next }

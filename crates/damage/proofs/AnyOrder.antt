@@ -13,7 +13,7 @@ use Rattle.sets.specs.Sets.{sendable}
 use Rattle.frame.specs.Layout.{logicalOf, frame}
 use Rattle.order.specs.Fields.{wordA, pitchBits}
 use Rattle.reading.specs.Reading.{read}
-use Rattle.damage.specs.Flips.{logicalFlips, Correctable, protectedFlips}
+use Rattle.bursts.specs.Flips.{logicalFlips, Correctable, protectedFlips}
 use Rattle.sets.specs.declared.Indices.{Indices}
 use Rattle.sets.specs.declared.Voicing.{Voicing}
 use Rattle.sets.specs.declared.ParameterSet.{ParameterSet}

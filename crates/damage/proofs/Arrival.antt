@@ -19,7 +19,7 @@ use Rattle.reading.specs.declared.Reading.{Reading}
 use Rattle.reading.specs.declared.Reading.the-variants.{Accepted, Erased}
 use Rattle.order.specs.Fields.{wordA, pitchBits, syncBit}
 use Rattle.reading.specs.Reading.{read}
-use Rattle.damage.specs.Flips.{logicalFlips, Correctable, protectedFlips}
+use Rattle.bursts.specs.Flips.{logicalFlips, Correctable, protectedFlips}
 use Rattle.sets.specs.declared.Indices.{Indices}
 use Rattle.sets.specs.declared.Voicing.{Voicing}
 use Rattle.sets.specs.declared.ParameterSet.{ParameterSet}
@@ -59,7 +59,7 @@ module _ (ord : List ℕ) (o : Order ord) (r : Record) (ok : T (valid r)) (sync 
   -- demand 2: the frame of a set that a sender takes is accepted as that set, with nothing repaired and its own sync bit
   pub packed-accepted : (set : ParameterSet) → T (sendable set) → receive ord r (frame ord set sync) ≡ accepted r sync set 0
   packed-accepted set t =
-      receive-taken ord r (frame ord set sync) (not-refused r (frame ord set sync) (packed-taken ord (logicalOf set sync)) ok)
+      receive-taken ord r (frame ord set sync) (not-refused ord r (frame ord set sync) (packed-taken ord o (logicalOf set sync)) ok)
       ∙ ap₂ (step r) (sent-bit ord o (logicalOf set sync) 53 (lit< tt) ∙ sync-bit set sync) (packed-returns ord o set sync t)
 
   module _ (fl : ℕ → Bool) where
@@ -71,7 +71,7 @@ module _ (ord : List ℕ) (o : Order ord) (r : Record) (ok : T (valid r)) (sync 
     pub arrived-taken : (set : ParameterSet) → receive ord r (arrived ord set sync fl) ≡ step r syncArrived (read (logicalBit ord (arrived ord set sync fl)))
     arrived-taken set =
         receive-taken ord r (arrived ord set sync fl)
-        (not-refused r (arrived ord set sync fl) (through-taken fl (frame ord set sync) (packed-taken ord (logicalOf set sync))) ok)
+        (not-refused ord r (arrived ord set sync fl) (through-taken ord fl (frame ord set sync) (packed-taken ord o (logicalOf set sync))) ok)
         ∙ ap (λ (b : Bool). step r b (read (logicalBit ord (arrived ord set sync fl))))
         (received-bit ord o (logicalOf set sync) fl 53 (lit< tt) ∙ ap (λ (b : Bool). b ⊻ fl (placeOf ord 53)) (sync-bit set sync))
 

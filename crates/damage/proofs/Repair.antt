@@ -18,7 +18,8 @@ use Rattle.hamming.proofs.Repairs.{decode-back, double-erases}
 use Rattle.frame.specs.Layout.{dataA, dataB, dataC, dataD, words, others, unvoicedWords, logical, logicalOf}
 use Rattle.order.specs.Fields.{wordA, wordB, wordC, wordD, pitchBits}
 use Rattle.reading.specs.Reading.{pitchRepaired, fromWords, byClass, read}
-use Rattle.damage.specs.Flips.{Correctable, protectedFlips}
+use Rattle.bursts.specs.Flips.{Correctable, protectedFlips}
+use Rattle.bursts.proofs.Flips.{protected-sum}
 use Rattle.sets.specs.declared.Indices.{Indices}
 use Rattle.sets.specs.declared.ParameterSet.the-variants.{Unvoiced}
 use Rattle.reading.specs.declared.Reading.the-variants.{Accepted, Erased}
@@ -34,10 +35,6 @@ single-count : (n : ℕ) → n ≤ 1 → cond (eqb n 1) 1 0 ≡ n
 single-count zero h = refl
 single-count (suc zero) h = refl
 single-count (suc (suc n)) h = absurd (omega arith)
-
--- the ones of five lists joined, the last first
-ones-five : (a b c d p : List Bool) → ones (a ++ (b ++ (c ++ (d ++ p)))) ≡ ones p + ones a + ones b + ones c + ones d
-ones-five a b c d p = simp ones-append (omega arith)
 
 module _ (x : Indices) (sync : Bool) (fl : ℕ → Bool) where
   -- the bits received
@@ -76,7 +73,7 @@ module _ (x : Indices) (sync : Bool) (fl : ℕ → Bool) where
     flips-are : pitchRepaired (pitchBits got) + ones (wordA fl) + ones (wordB fl) + ones (wordC fl) + ones (wordD fl) ≡ protectedFlips fl
     flips-are =
         ap (λ (n : ℕ). n + ones (wordA fl) + ones (wordB fl) + ones (wordC fl) + ones (wordD fl)) pitch-count
-        ∙ sym (ones-five (wordA fl) (wordB fl) (wordC fl) (wordD fl) (pitchBits fl))
+        ∙ sym (protected-sum fl)
 
     pub correctable-read : IndexRanges x → read got ≡ Accepted (Unvoiced seen) (protectedFlips fl)
     unfolding read

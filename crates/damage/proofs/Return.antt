@@ -9,7 +9,7 @@ use Rattle.pitch.proofs.Codes.{index-back}
 use Rattle.sets.specs.Sets.{indicesFit, voicingFits, inRange}
 use Rattle.frame.specs.Layout.{words, others, unvoicedWords, voicedWords, logical, logicalOf}
 use Rattle.reading.specs.Reading.{byClass, read}
-use Rattle.damage.specs.Flips.{Correctable}
+use Rattle.bursts.specs.Flips.{Correctable}
 use Rattle.sets.specs.declared.Indices.{Indices}
 use Rattle.sets.specs.declared.Voicing.{Voicing}
 use Rattle.sets.specs.declared.ParameterSet.{ParameterSet}

@@ -31,7 +31,8 @@ use Rattle.frame.specs.Layout.{dataA, dataB, dataC, dataD, words, others, unvoi
 use Rattle.soft.specs.Choice.{choose}
 use Rattle.soft.proofs.Claims.{claims}
 use Rattle.reading.specs.Reading.{fromWords, byClass, read}
-use Rattle.reading.specs.SoftReading.{confidenceOf, softByClass, softRead}
+use Rattle.order.specs.SoftTaking.{confidenceOf}
+use Rattle.reading.specs.SoftReading.{softByClass, softRead}
 use Rattle.reading.proofs.Extent.{read-ext}
 use Rattle.reading.proofs.SoftExtent.{soft-ext}
 use Rattle.records.specs.declared.Record.{Record}

@@ -17,7 +17,7 @@ use Rattle.order.proofs.Frames.{received-bit}
 use Rattle.frame.specs.Layout.{dataA, dataB, words, others, unvoicedWords, logical, logicalOf}
 use Rattle.sets.specs.declared.Indices.{Indices}
 use Rattle.sets.specs.declared.ParameterSet.the-variants.{Unvoiced}
-use Rattle.damage.specs.Flips.{logicalFlips, Correctable}
+use Rattle.bursts.specs.Flips.{logicalFlips, Correctable}
 use Rattle.damage.proofs.Repair.{damaged}
 use Rattle.damage.proofs.AnyOrder.{arrived}
 

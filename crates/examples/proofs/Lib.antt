@@ -2,3 +2,4 @@ pub mod Mute
 pub mod Examples
 pub mod WorkedExamples
 pub mod RepeatCounts
+pub mod OrderExamples

@@ -21,7 +21,7 @@ use Rattle.receiver.proofs.Refusals.{not-refused, receive-taken}
 use Rattle.records.proofs.Validity.{fresh-valid, counted-valid, valid-ranges}
 use Rattle.calls.specs.Model.{outcomes, answerOf, receiveModel, receiveKind}
 use Rattle.bits.specs.Lists.{Every}
-use Rattle.examples.specs.Examples.{Erases, muteIn, Mutes}
+use Rattle.examples.specs.Examples.{Erases, inDefault, muteIn, Mutes}
 
 -- mute after each of n repeats
 abbrev mutesFrom : List FrameKind → ℕ → List Bool
@@ -31,16 +31,16 @@ mutesFrom kinds (suc n) = muted (repeatsIn (pushed kinds repeatedKind)) ∷ mute
 -- an erased frame is a repeat
 erased-repeats : (r : Record) (bytes : List ℕ) → T (valid r) → Erases bytes → receive defaultOrder r bytes ≡ repeated r (logicalBit defaultOrder bytes 53)
 erased-repeats r bytes v e =
-    receive-taken defaultOrder r bytes (not-refused r bytes (e .taken) v) ∙ ap (step r (logicalBit defaultOrder bytes 53)) (e .erased)
+    receive-taken defaultOrder r bytes (not-refused defaultOrder r bytes (e .taken) v) ∙ ap (step r (logicalBit defaultOrder bytes 53)) (e .erased)
 
 erased-mutes : (frames : List (List ℕ)) (r : Record) → T (valid r) → Every Erases frames
-    → map (λ o. muteIn (o .answer)) (outcomes (receiveModel receiveKind defaultOrder) r frames) ≡ mutesFrom (r .kinds) (length frames)
+    → map (λ o. muteIn (o .answer)) (outcomes (receiveModel receiveKind) r (map inDefault frames)) ≡ mutesFrom (r .kinds) (length frames)
 unfolding repeated receive
 erased-mutes [] r v h = refl
 erased-mutes (b ∷ bs) r v h =
     let e = erased-repeats r b v (h .0) in
     let here = ap (λ (y : Received). muteIn (answerOf (y .answer))) e in
-    let rest = ap (λ (y : Received). map (λ o. muteIn (o .answer)) (outcomes (receiveModel receiveKind defaultOrder) (y .next) bs)) e in
+    let rest = ap (λ (y : Received). map (λ o. muteIn (o .answer)) (outcomes (receiveModel receiveKind) (y .next) (map inDefault bs))) e in
     ap₂ (λ (m : Bool) (ms : List Bool). m ∷ ms) here
     (rest ∙ erased-mutes bs (afterRepeat r) (counted-valid (r .last) (r .g2) (pushed (r .kinds) repeatedKind) (valid-ranges r v)) (h .1))
 

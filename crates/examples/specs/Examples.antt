@@ -30,7 +30,7 @@ use Rattle.receiver.specs.declared.Kind.the-variants as kind
 use Rattle.receiver.specs.declared.ReceiveAnswer.the-variants.{Result}
 use Rattle.codebook_values.specs.Values.{lsfAnswer, lsfWrites}
 use Rattle.codebook_values.specs.declared.ValuesAnswer.the-variants.{Written}
-use Rattle.calls.specs.Model.{Answer, done, refused, outcomes, receiveModel, receiveKind}
+use Rattle.calls.specs.Model.{Answer, done, refused, outcomes, receiveModel, receiveKind, ReceiveArguments}
 use Rattle.bits.specs.Lists.{Every}
 
 -- 1: classes of pitch codes
@@ -74,8 +74,8 @@ abbrev pub ninetyBytes : List ℕ
 ninetyBytes = 0x80 ∷ 0x56 ∷ 0x0D ∷ 0x40 ∷ 0x15 ∷ 0x00 ∷ 0x10 ∷ []
 
 pub record Frames : Type 0 where
-  pub ninety-answer : packAnswer ninety freshSync 7 ≡ Packed true
-  pub ninety-packed : packWrites ninety freshSync (replicate 7 0) ≡ ninetyBytes
+  pub ninety-answer : packAnswer defaultOrder ninety freshSync 7 ≡ Packed true
+  pub ninety-packed : packWrites defaultOrder ninety freshSync (replicate 7 0) ≡ ninetyBytes
 
 -- 7: that frame with two places changed, in a fresh receiver: as sent and both flips counted, or a repeat, which shows a set of zeros
 abbrev pub zeros : ParameterSet
@@ -118,8 +118,12 @@ pub record Spacing : Type 0 where
 
 -- 9: any eight erased frames from fresh; the seventh is not mute, the eighth is
 pub record Erases (bytes : List ℕ) : Type 0 where
-  pub taken : frameRefusal bytes ≡ 0
+  pub taken : frameRefusal defaultOrder bytes ≡ 0
   pub erased : read (logicalBit defaultOrder bytes) ≡ reading.Erased
+
+-- a frame received in the default order
+abbrev pub inDefault : List ℕ → ReceiveArguments
+inDefault bytes = record { order = defaultOrder; frame = bytes }
 
 abbrev pub muteIn : Answer FrameResult → Bool
 muteIn (done x) = x .mute
@@ -129,7 +133,7 @@ pub record Mutes : Type 0 where
   -- one such frame: that of example 7 with places 0 and 7 changed
   pub erased : Erases (changed (0 ∷ 7 ∷ []))
   pub eight : (frames : List (List ℕ)) → length frames ≡ 8 → Every Erases frames
-      → map (λ o. muteIn (o .answer)) (outcomes (receiveModel receiveKind defaultOrder) fresh frames)
+      → map (λ o. muteIn (o .answer)) (outcomes (receiveModel receiveKind) fresh (map inDefault frames))
       ≡ false ∷ false ∷ false ∷ false ∷ false ∷ false ∷ false ∷ true ∷ []
 
 -- all together

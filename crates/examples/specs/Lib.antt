@@ -1,3 +1,4 @@
 pub mod Examples
 pub mod WorkedExamples
 pub mod RepeatCounts
+pub mod OrderExamples

@@ -46,11 +46,11 @@ pub record RepeatCounts : Type 0 where
   -- all sixteen, and one more
   pub all : numberAfter (holding (latestRepeats 0 16) 16) (changed (0 ∷ 7 ∷ [])) ≡ 16
   -- a number that is not true
-  pub one-less : receiveRefusal (holding oldestRepeats 7) ninetyBytes ≡ 4
-  pub one-more : receiveRefusal (holding oldestRepeats 9) ninetyBytes ≡ 4
-  pub none : receiveRefusal (holding oldestRepeats 0) ninetyBytes ≡ 4
-  pub sixteen-more : receiveRefusal (holding oldestRepeats 24) ninetyBytes ≡ 4
-  pub right : receiveRefusal (holding oldestRepeats 8) ninetyBytes ≡ 0
+  pub one-less : receiveRefusal defaultOrder (holding oldestRepeats 7) ninetyBytes ≡ 4
+  pub one-more : receiveRefusal defaultOrder (holding oldestRepeats 9) ninetyBytes ≡ 4
+  pub none : receiveRefusal defaultOrder (holding oldestRepeats 0) ninetyBytes ≡ 4
+  pub sixteen-more : receiveRefusal defaultOrder (holding oldestRepeats 24) ninetyBytes ≡ 4
+  pub right : receiveRefusal defaultOrder (holding oldestRepeats 8) ninetyBytes ≡ 0
 
 -- a record of the old kind, by its last set's bandpass bits and its last G2
 abbrev pub oldOf : ℕ → ℕ → OldRecord

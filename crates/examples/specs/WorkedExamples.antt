@@ -34,8 +34,8 @@ voicedBytes = 0xAE ∷ 0x28 ∷ 0xCC ∷ 0x72 ∷ 0x67 ∷ 0xFE ∷ 0xA0 ∷ []
 
 -- its frame by a fresh sender, and what a fresh receiver makes of it; with B = 1 it is not sent
 pub record VoicedSet : Type 0 where
-  pub answer : packAnswer (voiced 2) freshSync 7 ≡ Packed true
-  pub packed : packWrites (voiced 2) freshSync (replicate 7 0) ≡ voicedBytes
+  pub answer : packAnswer defaultOrder (voiced 2) freshSync 7 ≡ Packed true
+  pub packed : packWrites defaultOrder (voiced 2) freshSync (replicate 7 0) ≡ voicedBytes
   pub received : receive defaultOrder fresh voicedBytes .answer ≡ Result (record {
     kind = kind.Voiced;
     set = voiced 2;
@@ -45,7 +45,7 @@ pub record VoicedSet : Type 0 where
     sync = false;
     repaired = 0;
   })
-  pub bandpass-one : packRefusal (voiced 1) 7 ≡ 5
+  pub bandpass-one : packRefusal defaultOrder (voiced 1) 7 ≡ 5
 
 -- a record whose last set has another G2 than its last G2
 abbrev pub kept : ℕ → Record
@@ -65,8 +65,8 @@ pub record Repeat : Type 0 where
 
 -- the record's G2 goes to 31
 pub record RecordRange : Type 0 where
-  pub highest : receiveRefusal (kept 31) ninetyBytes ≡ 0
-  pub past : receiveRefusal (kept 32) ninetyBytes ≡ 4
+  pub highest : receiveRefusal defaultOrder (kept 31) ninetyBytes ≡ 0
+  pub past : receiveRefusal defaultOrder (kept 32) ninetyBytes ≡ 4
 
 -- document 02, T-02, by example 6's frame: u0 and p2 of its word B, at places 2 and 37, leave the column of the spare, 111, and the frame is
 -- a repeat; u3 of its word C, at place 11, leaves 111 too and is put right
@@ -130,7 +130,7 @@ pub record Confidences : Type 0 where
     sync = false;
     repaired = 2;
   })
-  pub one-missing : softRefusal fresh ninetyBytes (replicate 53 200) ≡ 9
+  pub one-missing : softRefusal defaultOrder fresh ninetyBytes (replicate 53 200) ≡ 9
 
 -- first levels at the mean, 5880 where q = 9 and 5679 where q = 8: steady for a distance of 2, and for one of 3 the fourth of the seven levels
 pub record Distance : Type 0 where
@@ -144,16 +144,16 @@ setOf l1 l2 l3 l4 g2 g1 p b ap =
 
 -- every index at its upper limit is sent; with any of them one higher the set is refused with 5
 pub record Limits : Type 0 where
-  pub highest : packRefusal (setOf 127 63 63 63 31 7 98 15 1) 7 ≡ 0
-  pub l1 : packRefusal (setOf 128 63 63 63 31 7 98 15 1) 7 ≡ 5
-  pub l2 : packRefusal (setOf 127 64 63 63 31 7 98 15 1) 7 ≡ 5
-  pub l3 : packRefusal (setOf 127 63 64 63 31 7 98 15 1) 7 ≡ 5
-  pub l4 : packRefusal (setOf 127 63 63 64 31 7 98 15 1) 7 ≡ 5
-  pub g2 : packRefusal (setOf 127 63 63 63 32 7 98 15 1) 7 ≡ 5
-  pub g1 : packRefusal (setOf 127 63 63 63 31 8 98 15 1) 7 ≡ 5
-  pub pitch : packRefusal (setOf 127 63 63 63 31 7 99 15 1) 7 ≡ 5
-  pub bandpass : packRefusal (setOf 127 63 63 63 31 7 98 16 1) 7 ≡ 5
-  pub aperiodic : packRefusal (setOf 127 63 63 63 31 7 98 15 2) 7 ≡ 5
+  pub highest : packRefusal defaultOrder (setOf 127 63 63 63 31 7 98 15 1) 7 ≡ 0
+  pub l1 : packRefusal defaultOrder (setOf 128 63 63 63 31 7 98 15 1) 7 ≡ 5
+  pub l2 : packRefusal defaultOrder (setOf 127 64 63 63 31 7 98 15 1) 7 ≡ 5
+  pub l3 : packRefusal defaultOrder (setOf 127 63 64 63 31 7 98 15 1) 7 ≡ 5
+  pub l4 : packRefusal defaultOrder (setOf 127 63 63 64 31 7 98 15 1) 7 ≡ 5
+  pub g2 : packRefusal defaultOrder (setOf 127 63 63 63 32 7 98 15 1) 7 ≡ 5
+  pub g1 : packRefusal defaultOrder (setOf 127 63 63 63 31 8 98 15 1) 7 ≡ 5
+  pub pitch : packRefusal defaultOrder (setOf 127 63 63 63 31 7 99 15 1) 7 ≡ 5
+  pub bandpass : packRefusal defaultOrder (setOf 127 63 63 63 31 7 98 16 1) 7 ≡ 5
+  pub aperiodic : packRefusal defaultOrder (setOf 127 63 63 63 31 7 98 15 2) 7 ≡ 5
 
 -- all together
 pub record WorkedExamples : Type 0 where

@@ -6,7 +6,8 @@ use mathlib.Core.List.{List, [], _∷_, _++_, map}
 use Prim.Native.Nat.{ℕ, _≤_, _<_}
 use lib.ListN.{take, getD}
 use Rattle.bits.specs.Bits.{bits, same}
-use Rattle.bits.proofs.Tests.{every, every-at}
+use Rattle.bits.specs.Lists.{every}
+use Rattle.bits.proofs.Tests.{every-at}
 use Rattle.bits.proofs.Patterns.{same-eq}
 use Rattle.hamming.specs.Word.{checkBits, dataBits, column, spareColumn}
 use Rattle.hamming.proofs.Lengths.{lengths-at}

@@ -5,7 +5,8 @@ use Prim.Native.Nat.{ℕ, _≤_}
 use native.Mathlib.Omega.{arith}
 use lib.Dec.{T, leb, lit≤}
 use borrow.Author.Tests.{le-leb}
-use Rattle.bits.proofs.Tests.{every, every-at, implies, implies-at}
+use Rattle.bits.specs.Lists.{every}
+use Rattle.bits.proofs.Tests.{every-at, implies, implies-at}
 use Rattle.hamming.specs.Word.{lengthOf}
 use Rattle.hamming.specs.declared.WordLength.{WordLength}
 use Rattle.hamming.specs.declared.WordLength.the-variants.{Six, Seven, Eight}

@@ -9,7 +9,8 @@ use lib.Dec.{eqb, eqb→eq}
 use lib.ListN.{getD}
 use lib.Pow.{pow-pos}
 use Rattle.bits.specs.Bits.{value, bits}
-use Rattle.bits.proofs.Tests.{every, every-at, equal-at}
+use Rattle.bits.specs.Lists.{every}
+use Rattle.bits.proofs.Tests.{every-at, equal-at}
 use Rattle.bits.proofs.Digits.{bits-mod}
 use Rattle.hamming.specs.Word.{checkBits, dataBits, parity, parityOf}
 use Rattle.hamming.proofs.Lengths.{lengths-at}

@@ -11,7 +11,8 @@ use lib.Bits.{bitXor, xor-lt, xor-shr, xor-mod}
 use lib.ListN.{length, replicate}
 use lib.Pow.{pow-lt}
 use Rattle.bits.specs.Bits.{_⊻_, _⊕_, value, bits, same}
-use Rattle.bits.proofs.Tests.{every, every-at}
+use Rattle.bits.specs.Lists.{every}
+use Rattle.bits.proofs.Tests.{every-at}
 use Rattle.bits.proofs.Patterns.{same-eq}
 use Rattle.bits.proofs.Digits.{bits-length, value-bits}
 use Rattle.hamming.specs.Word.{flipAt}

@@ -9,7 +9,8 @@ use lib.Dec.{T, eqb, eqb→eq, ltb}
 use lib.ListN.{length}
 use borrow.Author.Tests.{eq-eqb, ne-eqb}
 use Rattle.bits.specs.Bits.{ones, same}
-use Rattle.bits.proofs.Tests.{every, every-at}
+use Rattle.bits.specs.Lists.{every}
+use Rattle.bits.proofs.Tests.{every-at}
 use Rattle.bits.proofs.Patterns.{allPatterns, all-patterns-at}
 use Rattle.hamming.specs.Word.{checkBits, column, spareColumn, erases, Fix, stand, flip, erase, fixOf}
 use Rattle.hamming.proofs.Lengths.{lengths-at}

@@ -5,6 +5,7 @@ use Prim.Native.Nat.{ℕ, zero, suc, _+_, _-_, _≤_}
 use native.Mathlib.Omega.{arith}
 use lib.ListN.{length, take, drop, length-append, length-drop}
 use lib.Seq.{drop-length, drop-append-le, take-at}
+use Rattle.order.specs.Order.{defaultOrder}
 use Rattle.report.specs.Lines.{frameLine, lastLine}
 use Rattle.text.specs.Placing.{Appended}
 use Rattle.receiver.specs.Frames.{framesIn, answerAt}
@@ -38,7 +39,7 @@ textBefore-append bytes k zero =
     ([], ap (textBefore bytes) e ∙ sym (append-nil (textBefore bytes k)))
 textBefore-append bytes k (suc j) =
     let g = textBefore-append bytes k j in
-    let line = frameLine (k + j) (answerAt bytes (k + j)) in
+    let line = frameLine (k + j) (answerAt defaultOrder bytes (k + j)) in
     let e : k + suc j ≡ suc (k + j) = omega arith in
     (g .0 ++ line, ap (textBefore bytes) e ∙ ap (λ (l : List ℕ). l ++ line) (g .1) ∙ append-assoc (textBefore bytes k) (g .0) line)
 

@@ -4,6 +4,7 @@ use mathlib.Core.Path.{_≡_}
 use mathlib.Core.List.{List, _++_}
 use lib.ListN.{length, take, drop}
 use Rattle.bits.specs.Lists.{ReadFrom}
+use Rattle.order.specs.Order.{defaultOrder}
 use Rattle.receiver.specs.declared.Kind.{Kind}
 use Rattle.receiver.specs.declared.Kind.the-variants.{Unvoiced, Voiced, Repeat}
 use Rattle.receiver.specs.declared.ReceiveAnswer.{ReceiveAnswer}
@@ -28,12 +29,12 @@ repeatOf (Refused n) = 0
 -- the first line and those of the first k frames
 unfoldable pub textBefore : List ℕ → ℕ → List ℕ
 textBefore bytes zero = firstLine
-textBefore bytes (suc k) = textBefore bytes k ++ frameLine k (answerAt bytes k)
+textBefore bytes (suc k) = textBefore bytes k ++ frameLine k (answerAt defaultOrder bytes k)
 
 -- how many of the first k frames are of kind R
 unfoldable pub repeatsBefore : List ℕ → ℕ → ℕ
 repeatsBefore bytes zero = 0
-repeatsBefore bytes (suc k) = repeatsBefore bytes k + repeatOf (answerAt bytes k)
+repeatsBefore bytes (suc k) = repeatsBefore bytes k + repeatOf (answerAt defaultOrder bytes k)
 
 -- all that is printed
 unfoldable pub text : List ℕ → List ℕ

@@ -8,6 +8,7 @@ use text::end_of;
 ghost use mathlib.Core.Path.{_≡_};
 ghost use Prim.Native.Nat.{suc, _+_, _*_, _≤_};
 ghost use lib.ListN.{length};
+ghost use Rattle.order.specs.Order.{defaultOrder};
 ghost use Rattle.records.specs.Records.{fresh};
 ghost use Rattle.report.specs.Lines.{frameLine};
 ghost use Rattle.text.specs.Placing.{Appended};
@@ -59,17 +60,18 @@ fn repeat_of(answer: ReceiveAnswer) -> u64
 // Frame k: the receiver takes it, and its line is written.
 pub(crate) fn take_frame(before: Progress, bytes: &[u8], k: usize, out: &mut [u8]) -> Progress
     requires { ⌜ (7 * suc k ≤ length (now bytes)) × (before .end + 144 ≤ length (now out)) × (before .repeats ≤ k) ⌝ }
-    requires { ⌜ before .rec ≡ recordAfter (now bytes) k ⌝ }
-    ensures record { λ r. ⌜ r .rec ≡ recordAfter (now (bytes .entry)) (suc k) ⌝ }
-    ensures repeats { λ r. ⌜ r .repeats ≡ before .repeats + repeatOf (answerAt (now (bytes .entry)) k) ⌝ }
+    requires { ⌜ before .rec ≡ recordAfter defaultOrder (now bytes) k ⌝ }
+    ensures record { λ r. ⌜ r .rec ≡ recordAfter defaultOrder (now (bytes .entry)) (suc k) ⌝ }
+    ensures repeats { λ r. ⌜ r .repeats ≡ before .repeats + repeatOf (answerAt defaultOrder (now (bytes .entry)) k) ⌝ }
     ensures count { λ r. ⌜ r .repeats ≤ suc k ⌝ }
     ensures sent { λ r. ⌜ r .sent .count ≡ before .sent .count ⌝ }
-    ensures line { λ r. ⌜ Appended (now (out .entry)) (before .end) (frameLine k (answerAt (now (bytes .entry)) k)) (now (out .exit)) (r .end) ⌝ }
+    ensures line { λ r. ⌜ Appended (now (out .entry)) (before .end) (frameLine k (answerAt defaultOrder (now (bytes .entry)) k)) (now (out .exit)) (r .end) ⌝ }
     ensures bound { λ r. ⌜ r .end ≤ before .end + 144 ⌝ }
 {
     let rec = before.rec;
     let sent = before.sent;
-    let received = receiver::receive(rec, &bytes[7 * k..7 * k + 7]);
+    let order = order::default_order();
+    let received = receiver::receive(rec, &bytes[7 * k..7 * k + 7], &order);
     let answer = received.answer;
     let next = received.next;
     let repeats = before.repeats + repeat_of(answer);

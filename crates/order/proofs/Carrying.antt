@@ -1,4 +1,4 @@
--- The carried place is 7 × j modulo 54 at every logical bit j, by induction, and so the default order's.
+-- The carried place is 7 × j modulo 54 at every logical bit j, by induction.
 -- Assumes nothing.
 use mathlib.Core.Path.{_≡_, refl, sym, ap, _∙_, subst⁻¹}
 use mathlib.Core.Bool.{Bool, true, false, cond}
@@ -8,9 +8,7 @@ use native.Mathlib.Omega.{arith}
 use lib.Arith.{digits-mod}
 use lib.Dec.{leb, lit<}
 use borrow.Author.Tests.{leb-true, leb-false}
-use Rattle.order.specs.Order.{defaultOrder, placeOf}
 use Rattle.order.specs.Carrying.{nextPlace, carriedPlace, CarriedPlaces}
-use Rattle.order.proofs.DefaultOrder.{default-place}
 
 -- the place after that of logical bit j
 next-is : (j : ℕ) → nextPlace (7 * j % 54) ≡ 7 * suc j % 54
@@ -38,7 +36,3 @@ carried-more n m place e p = ap nextPlace p ∙ ap carriedPlace (sym e)
 -- a carried place is a place
 pub carried-lt : (j : ℕ) → carriedPlace j < 54
 carried-lt j = subst⁻¹ (λ (t : ℕ). t < 54) (carried-places j) (mod-lt (7 * j) (lit< tt))
-
--- and the one that the default order has for the bit
-pub carried-place : (j : ℕ) → j < 54 → carriedPlace j ≡ placeOf defaultOrder j
-carried-place j h = carried-places j ∙ sym (default-place j h)

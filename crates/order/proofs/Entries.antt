@@ -13,12 +13,12 @@ use Rattle.bits.specs.Bits.{addOne}
 use Rattle.order.specs.Order.{times}
 
 -- how many entries are below n
-below : ℕ → List ℕ → ℕ
+pub below : ℕ → List ℕ → ℕ
 below n [] = zero
 below n (x ∷ xs) = addOne (ltb x n) (below n xs)
 
 -- below n + 1 are those below n and those that are n
-below-suc : (n : ℕ) (l : List ℕ) → below (suc n) l ≡ below n l + times n l
+pub below-suc : (n : ℕ) (l : List ℕ) → below (suc n) l ≡ below n l + times n l
 unfolding below
 below-suc n [] = refl
 below-suc n (x ∷ xs) = go (ltb x (suc n)) (ltb x n) (eqb x n) refl refl refl (below-suc n xs)
@@ -33,7 +33,7 @@ below-suc n (x ∷ xs) = go (ltb x (suc n)) (ltb x n) (eqb x n) refl refl refl (
     go false false true ea eb ec ih = absurd (omega (arith, ltb-false x (suc n) ea, eqb-true x n ec))
     go false false false ea eb ec ih = omega arith
 
-below-le : (n : ℕ) (l : List ℕ) → below n l ≤ length l
+pub below-le : (n : ℕ) (l : List ℕ) → below n l ≤ length l
 unfolding below
 below-le n [] = zero-le
 below-le n (x ∷ xs) = go (ltb x n) (below-le n xs)

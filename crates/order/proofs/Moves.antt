@@ -1,7 +1,7 @@
 -- Bits of one number moved to another by shifts and masks: a test that antt computes says where each bit comes from.
 -- Assumes nothing.
 use mathlib.Core.Path.{_≡_, refl, ap, ap₂, _∙_}
-use mathlib.Core.Bool.{Bool, true, false, _&&_, _||_, cond}
+use mathlib.Core.Bool.{Bool, true, false, not, _&&_, _||_, cond}
 use mathlib.Core.List.{List, [], _∷_}
 use Prim.Native.Nat.{ℕ, _+_, _*_, _-_, _/_, _%_, _^_, _<_}
 use native.Mathlib.Nat.{lt-of-le-of-lt}
@@ -79,6 +79,24 @@ moved-bit (x ∷ xs) k t p acc seen h c e = go (λ acc seen. moved-bit xs k t p 
         ∙ ap (λ (z : Bool). (seen && bit t p) || (z && true)) (brought x k t p h (and-left (brings x k t) (comes xs k t true) c))
         ∙ with-named seen (bit t p))
     go rest false q c = rest _ seen c (joined false q ∙ without-named (seen && bit t p) (bit k (shifted x p)))
+
+-- whether no mask names bit k
+abbrev pub unnamed : ℕ → List Move → Bool
+unnamed k [] = true
+unnamed k (x ∷ xs) = not (bit k (maskOf x)) && unnamed k xs
+
+-- then it stays as it was
+pub moved-stays : (k : ℕ) (xs : List Move) (p acc : ℕ) → T (unnamed k xs) → bit k (moved xs p acc) ≡ bit k acc
+moved-stays k [] p acc t = refl
+moved-stays k (x ∷ xs) p acc t =
+    moved-stays k xs p (bitOr acc (bitAnd (shifted x p) (maskOf x))) (and-right (not (bit k (maskOf x))) (unnamed k xs) t)
+    ∙ bit-or k acc (bitAnd (shifted x p) (maskOf x))
+    ∙ ap (λ (b : Bool). bit k acc || b) (bit-and k (shifted x p) (maskOf x))
+    ∙ go (bit k (maskOf x)) (and-left (not (bit k (maskOf x))) (unnamed k xs) t)
+  where
+    go : (b : Bool) → T (not b) → (bit k acc || (bit k (shifted x p) && b)) ≡ bit k acc
+    go true n = absurd n
+    go false n = without-named (bit k acc) (bit k (shifted x p))
 
 -- whether all masks have at most w bits
 abbrev pub below : ℕ → List Move → Bool

@@ -1,5 +1,7 @@
 pub mod Order
 pub mod Fields
-pub mod Taking
 pub mod Carrying
-pub mod Filling
+pub mod Listing
+pub mod Placing
+pub mod Taking
+pub mod SoftTaking

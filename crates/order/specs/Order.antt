@@ -1,12 +1,13 @@
--- Document 01, "Order of the bits": orders, the default one (document 01's house order), places, bytes and the channel.
+-- Document 01, "Order of the bits", with document 02, T-07: orders, the default one (the house order), places, bytes and the channel.
 -- A frame's logical bits are a sequence, of which 0 to 53 count.
 use Prim.Native.Nat.{ℕ, zero, suc, _*_, _/_, _%_, _<_}
 use mathlib.Core.Path.{_≡_}
 use mathlib.Core.Bool.{Bool, false, not, cond, _&&_}
-use mathlib.Core.List.{List, [], _∷_}
-use lib.Dec.{eqb, ltb}
+use mathlib.Core.List.{List, [], _∷_, _++_}
+use lib.Dec.{T, eqb, ltb}
 use lib.ListN.{length, getD}
 use Rattle.bits.specs.Bits.{_⊻_, addOne, ones, value, bits, cut}
+use Rattle.bits.specs.Lists.{every}
 use Rattle.bits.specs.Refusals.{Table, firstRefusal}
 
 -- how often a number stands in a list
@@ -18,6 +19,15 @@ times j (x ∷ xs) = addOne (eqb x j) (times j xs)
 pub record Order (ord : List ℕ) : Type 0 where
   pub size : length ord ≡ 54
   pub once : (j : ℕ) → j < 54 → times j ord ≡ 1
+
+-- the test of it
+abbrev pub isOrder : List ℕ → Bool
+isOrder ord = eqb (length ord) 54 && every 54 (λ j. eqb (times j ord) 1)
+
+-- what is claimed of the test: it passes for orders, and for nothing else
+pub record TestsOrder (ord : List ℕ) : Type 0 where
+  pub passes : Order ord → T (isOrder ord)
+  pub only : T (isOrder ord) → Order ord
 
 -- the place of logical bit j: where the order names it
 unfoldable pub placeOf : List ℕ → ℕ → ℕ
@@ -60,13 +70,17 @@ logicalBit ord bytes j = bitAt bytes (placeOf ord j)
 abbrev pub padding : List ℕ → List Bool
 padding bytes = cut (bitAt bytes) 54 2
 
--- what refuses a frame: it is not seven bytes; one of its last two bits is set
-abbrev pub frameTable : List ℕ → Table
-frameTable bytes = (not (eqb (length bytes) 7), 2) ∷ (not (eqb (ones (padding bytes)) 0), 3) ∷ []
+-- what refuses a list as the order: it is none (T-07)
+abbrev pub orderTable : List ℕ → Table
+orderTable ord = (not (isOrder ord), 10) ∷ []
+
+-- what refuses a frame in an order: it is not seven bytes; what refuses the order; one of its last two bits is set
+abbrev pub frameTable : List ℕ → List ℕ → Table
+frameTable ord bytes = (not (eqb (length bytes) 7), 2) ∷ orderTable ord ++ (not (eqb (ones (padding bytes)) 0), 3) ∷ []
 
 -- its refusal, 0 is none
-abbrev pub frameRefusal : List ℕ → ℕ
-frameRefusal bytes = firstRefusal (frameTable bytes)
+abbrev pub frameRefusal : List ℕ → List ℕ → ℕ
+frameRefusal ord bytes = firstRefusal (frameTable ord bytes)
 
 -- the frame that a channel hands on: the places that fl names among 0 to 53 are changed, nothing else
 unfoldable pub through : (ℕ → Bool) → List ℕ → List ℕ

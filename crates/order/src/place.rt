@@ -1,64 +1,46 @@
-// The seven bytes of 54 logical bits in the default order.
+// The seven bytes of 54 logical bits in an order.
+use crate::Placed;
+use crate::list::each_once;
+use crate::list::is_default;
 ghost use mathlib.Core.Path.{_≡_};
-ghost use Prim.Native.Nat.{_+_, _≤_, _<_};
-ghost use Rattle.bits.specs.Bits.{cut, carried};
-ghost use Rattle.order.specs.Order.{defaultOrder, byteOf, frameOf};
-ghost use Rattle.order.specs.Carrying.{nextPlace};
-ghost use Rattle.order.specs.Filling.{OneAt, Joined, UnderWay};
+ghost use mathlib.Core.Bool.{true};
+ghost use Rattle.bits.specs.Bits.{value, cut, carried};
+ghost use Rattle.order.specs.Order.{isOrder, defaultOrder, placed, byteOf};
+ghost use Rattle.order.specs.Placing.{placedBits};
 
-// Packing under way: the next logical bit, its place, and the places filled so far, place 0 the most significant of 56 bits. They
-// are kept in nine parts, each with every ninth logical bit: those move equally far, so that a compiler moves them together.
-struct Placing {
-    bit: usize,
-    place: usize,
-    parts: [u64; 9],
+// The 56 places of 54 logical bits in the default order. Bits that stand as far from where they go move together, by a shift
+// and a mask.
+fn scatter(bits: u64) -> u64
+    ensures { λ r. ⌜ r ≡ value (cut (placed defaultOrder (carried 54 bits)) 0 56) ⌝ }
+{
+    ((bits >> 40) & 0x40)
+        | ((bits >> 34) & 0x2010)
+        | ((bits >> 28) & 0x100804)
+        | ((bits >> 22) & 0x8040200)
+        | ((bits >> 16) & 0x402010080)
+        | ((bits >> 10) & 0x20100804020)
+        | ((bits >> 4) & 0x1008040201008)
+        | ((bits << 2) & 0x80402010080400)
+        | ((bits << 8) & 0x20100804020100)
+        | ((bits << 14) & 0x8040201008000)
+        | ((bits << 20) & 0x2010080400000)
+        | ((bits << 26) & 0x804020000000)
+        | ((bits << 32) & 0x40201000000000)
+        | ((bits << 38) & 0x10080000000000)
+        | ((bits << 44) & 0x4000000000000)
 }
 
-// The place of the next logical bit.
-fn next_place(place: usize) -> usize
-    requires { ⌜ place < 54 ⌝ }
-    ensures { λ r. ⌜ r ≡ nextPlace place ⌝ }
+// The 56 places in any order: place after place, the bit that the order names there.
+fn place_each(bits: u64, order: &[u8]) -> u64
+    requires { ⌜ isOrder (now order) ≡ true ⌝ }
+    ensures { λ r. ⌜ r ≡ value (cut (placed (now (order .entry)) (carried 54 bits)) 0 56) ⌝ }
 {
-    let next = place + 7;
-    if 54 <= next { next - 54 } else { next }
-}
-
-// Logical bit j at a place, with 0 at every other.
-fn bit_at_place(bits: u64, j: usize, place: usize) -> u64
-    requires { ⌜ (j < 54) × (place < 54) ⌝ }
-    ensures { λ r. ⌜ OneAt place (carried 54 bits j) r ⌝ }
-{
-    ((bits << (2 + j)) & FIRST_PLACE) >> place
-}
-
-// Nine logical bits more, each at the place that is carried to it.
-fn place_nine(bits: u64, from: Placing) -> Placing
-    requires { ⌜ (from .bit ≤ 45) × UnderWay (carried 54 bits) (from .bit) (from .place) (from .parts) ⌝ }
-    ensures counted { λ r. ⌜ r .bit ≡ from .bit + 9 ⌝ }
-    ensures placed { λ r. ⌜ UnderWay (carried 54 bits) (r .bit) (r .place) (r .parts) ⌝ }
-{
-    let mut place = from.place;
-    let mut parts = from.parts;
-    for i in 0..9 {
-        parts[i] = parts[i] | bit_at_place(bits, from.bit + i, place);
-        place = next_place(place);
+    let first = bits << 10;
+    let mut places: u64 = 0;
+    for t in 0..54 {
+        places = places * 2 + ((first << order[t]) >> 63);
     }
-    Placing {
-        bit: from.bit + 9,
-        place,
-        parts,
-    }
-}
-
-// The parts as one number.
-fn joined(parts: [u64; 9]) -> u64
-    ensures { λ r. ⌜ Joined parts r ⌝ }
-{
-    let mut all: u64 = 0;
-    for part in 0..9 {
-        all = all | parts[part];
-    }
-    all
+    places * 4
 }
 
 // The seven bytes of a number's low 56 bits, most significant first.
@@ -76,21 +58,31 @@ fn seven_bytes(bits: u64) -> [u8; 7]
     ]
 }
 
-// The frame of the logical bits in the low 54 bits of a number.
-pub fn place_bits(bits: u64) -> [u8; 7]
-    ensures { λ r. ⌜ r ≡ frameOf defaultOrder (carried 54 bits) ⌝ }
+// The frame of the logical bits in the low 54 bits of a number. Refused: 10, a list that is no order. The default order is
+// known by one comparison, so that who lends it does not pay for the others.
+pub fn place_bits(bits: u64, order: &[u8]) -> Placed
+    ensures { λ r. ⌜ r ≡ placedBits (now (order .entry)) (carried 54 bits) ⌝ }
 {
-    let mut placing = Placing {
-        bit: 0,
-        place: 0,
-        parts: [0; 9],
-    };
-    while placing.bit < 54 {
-        placing = place_nine(bits, placing);
+    if order.len() != 54 {
+        return Placed {
+            refusal: 10,
+            bytes: [0; 7],
+        };
     }
-    let parts = placing.parts;
-    seven_bytes(joined(parts))
+    if is_default(order) {
+        return Placed {
+            refusal: 0,
+            bytes: seven_bytes(scatter(bits)),
+        };
+    }
+    if each_once(order) {
+        return Placed {
+            refusal: 0,
+            bytes: seven_bytes(place_each(bits, order)),
+        };
+    }
+    Placed {
+        refusal: 10,
+        bytes: [0; 7],
+    }
 }
-
-// The bit of place 0: 2 to the 55th.
-const FIRST_PLACE: u64 = 0x80_0000_0000_0000;

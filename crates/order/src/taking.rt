@@ -1,10 +1,14 @@
-// The 54 logical bits of a frame in the default order.
+// The 54 logical bits of a frame in an order.
 use crate::BitsAnswer;
+use crate::list::each_once;
+use crate::list::is_default;
 ghost use mathlib.Core.Path.{_≡_};
+ghost use mathlib.Core.Bool.{true};
+ghost use Prim.Native.Nat.{_^_, _<_};
 ghost use lib.ListN.{length};
 ghost use Rattle.bits.specs.Bits.{value, cut, carried};
-ghost use Rattle.order.specs.Order.{defaultOrder, placeOf, bitAt};
-ghost use Rattle.order.specs.Taking.{bitsAnswer};
+ghost use Rattle.order.specs.Order.{isOrder, defaultOrder, placeOf, bitAt};
+ghost use Rattle.order.specs.Taking.{OneNamed, bitsAnswer};
 
 // The 56 places of seven bytes as one number, place 0 the most significant bit.
 fn placed_bits(frame: &[u8]) -> u64
@@ -18,7 +22,7 @@ fn placed_bits(frame: &[u8]) -> u64
     placed
 }
 
-// The 54 logical bits, from their places. Those that stand as far from where they go move together, by a shift and a mask.
+// The 54 logical bits in the default order, from their places. Those that stand as far from where they go move together, by a shift and a mask.
 fn gather(placed: u64) -> u64
     ensures { λ r. ⌜ r ≡ value (cut (λ j. carried 56 placed (placeOf defaultOrder j)) 0 54) ⌝ }
 {
@@ -39,15 +43,70 @@ fn gather(placed: u64) -> u64
         | ((placed >> 44) & 0x40)
 }
 
-// The logical bits of a frame. Refused: 2, not seven bytes; 3, one of the last two bits set.
-pub fn logical_bits(frame: &[u8]) -> BitsAnswer
-    ensures { λ r. ⌜ r ≡ bitsAnswer (now (frame .entry)) ⌝ }
+// The bit at the first of 56 places, moved to where logical bit j stands among 54, with 0 at every other.
+fn bit_named(places: u64, j: u8) -> u64
+    requires { ⌜ j < 54 ⌝ }
+    ensures bit { λ r. ⌜ OneNamed j (carried 56 places 0) r ⌝ }
+    ensures bound { λ r. ⌜ r < 2 ^ 54 ⌝ }
 {
-    if frame.len() != 7 {
-        return BitsAnswer::Refused(2);
+    (places & FIRST_PLACE) >> (2 + j)
+}
+
+// The 54 logical bits in any order: place after place, the bit there goes where the order names it.
+fn take_each(placed: u64, order: &[u8]) -> u64
+    requires { ⌜ isOrder (now order) ≡ true ⌝ }
+    ensures { λ r. ⌜ r ≡ value (cut (λ j. carried 56 placed (placeOf (now (order .entry)) j)) 0 54) ⌝ }
+{
+    let mut bits: u64 = 0;
+    let mut left = placed;
+    for t in 0..54 {
+        bits = bits | bit_named(left, order[t]);
+        left = left << 1;
     }
+    bits
+}
+
+// The logical bits of seven bytes in the default order. Refused: 3, one of the last two bits set.
+fn default_bits(frame: &[u8]) -> BitsAnswer
+    requires { ⌜ length (now frame) ≡ 7 ⌝ }
+    ensures { λ r. ⌜ r ≡ bitsAnswer defaultOrder (now (frame .entry)) ⌝ }
+{
     if frame[6] % 4 != 0 {
         return BitsAnswer::Refused(3);
     }
     BitsAnswer::Bits(gather(placed_bits(frame)))
 }
+
+// The same in any order.
+fn ordered_bits(frame: &[u8], order: &[u8]) -> BitsAnswer
+    requires { ⌜ (length (now frame) ≡ 7) × (isOrder (now order) ≡ true) ⌝ }
+    ensures { λ r. ⌜ r ≡ bitsAnswer (now (order .entry)) (now (frame .entry)) ⌝ }
+{
+    if frame[6] % 4 != 0 {
+        return BitsAnswer::Refused(3);
+    }
+    BitsAnswer::Bits(take_each(placed_bits(frame), order))
+}
+
+// The logical bits of a frame. Refused: 2, not seven bytes; 10, a list that is no order; 3, one of the last two bits set.
+// The default order is known by one comparison, so that who lends it does not pay for the others.
+pub fn logical_bits(frame: &[u8], order: &[u8]) -> BitsAnswer
+    ensures { λ r. ⌜ r ≡ bitsAnswer (now (order .entry)) (now (frame .entry)) ⌝ }
+{
+    if frame.len() != 7 {
+        return BitsAnswer::Refused(2);
+    }
+    if order.len() != 54 {
+        return BitsAnswer::Refused(10);
+    }
+    if is_default(order) {
+        return default_bits(frame);
+    }
+    if each_once(order) {
+        return ordered_bits(frame, order);
+    }
+    BitsAnswer::Refused(10)
+}
+
+// The bit of place 0: 2 to the 55th.
+const FIRST_PLACE: u64 = 0x80_0000_0000_0000;

@@ -3,7 +3,6 @@ pub mod Outcomes
 pub mod Extent
 pub mod Ranges
 pub mod Erasures
-pub mod SoftAnswers
 pub mod SoftExtent
 pub mod SoftRanges
 pub mod SoftEqual

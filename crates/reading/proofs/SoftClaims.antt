@@ -5,14 +5,12 @@ use mathlib.Core.Bool.{Bool, false, true≢false}
 use mathlib.Core.List.{List}
 use Prim.Native.Nat.{ℕ}
 use native.Mathlib.Omega.{arith}
-use lib.ListN.{getD}
 use Rattle.bits.specs.Bits.{ones}
 use Rattle.pitch.specs.Pitch.{classOf}
 use Rattle.pitch.specs.declared.PitchClass.the-variants as class
 use Rattle.hamming.specs.declared.Decoded.{Decoded}
 use Rattle.hamming.specs.declared.Decoded.the-variants as word
 use Rattle.hamming.proofs.Erasures.{isErased, decode-erased}
-use Rattle.order.proofs.Places.{place-back}
 use Rattle.order.specs.Fields.{wordA, wordB, wordC, wordD, pitchBits}
 use Rattle.sets.specs.declared.ParameterSet.the-variants.{Unvoiced}
 use Rattle.soft.specs.Choice.{differing, chosen, choose}
@@ -20,7 +18,7 @@ use Rattle.soft.specs.Claims.{Tied}
 use Rattle.soft.proofs.Claims.{claims}
 use Rattle.reading.specs.Reading.{fromWords}
 use Rattle.reading.specs.SoftReading.{softByClass, softRead}
-use Rattle.reading.specs.SoftClaims.{SpareShown, AllEqual, takenB, takenC, takenD, takenIndices, placesDiffering, SoftClaims, PlaceConfidences}
+use Rattle.reading.specs.SoftClaims.{SpareShown, AllEqual, takenB, takenC, takenD, takenIndices, placesDiffering, SoftClaims}
 use Rattle.reading.specs.declared.Reading.the-variants.{Accepted, Erased}
 use Rattle.reading.proofs.Erasures.{spare-read}
 use Rattle.reading.proofs.SoftExtent.{soft-alone}
@@ -74,7 +72,3 @@ soft-claims g q = record {
   spare-erased = λ s. spare-read g (s .unvoiced) (s .spare);
   spare-read = spare-taken g q;
 }
-
--- the place that an order gives a bit is the one at which it names it
-pub place-confidences : PlaceConfidences
-place-confidences ord o confidences t h = ap (λ (p : ℕ). getD confidences p 0) (place-back ord o t h)

@@ -3,20 +3,17 @@
 use Prim.Native.Nat.{ℕ, _+_, _<_}
 use mathlib.Core.Path.{_≡_}
 use mathlib.Core.Bool.{Bool, false}
-use mathlib.Core.List.{List}
-use lib.ListN.{getD}
 use Rattle.bits.specs.Bits.{ones}
 use Rattle.pitch.specs.Pitch.{classOf}
 use Rattle.pitch.specs.declared.PitchClass.the-variants as class
 use Rattle.hamming.specs.Word.{syndrome, spareColumn, erases}
-use Rattle.order.specs.Order.{Order}
 use Rattle.order.specs.Fields.{wordA, wordB, wordC, wordD, pitchBits}
 use Rattle.sets.specs.declared.Indices.{Indices}
 use Rattle.sets.specs.declared.ParameterSet.the-variants.{Unvoiced}
 use Rattle.soft.specs.Choice.{differing, chosen}
 use Rattle.soft.specs.Claims.{Tied}
 use Rattle.reading.specs.Reading.{indicesOf, pitchRepaired, read}
-use Rattle.reading.specs.SoftReading.{confidenceOf, softRead}
+use Rattle.reading.specs.SoftReading.{softRead}
 use Rattle.reading.specs.declared.Reading.the-variants.{Accepted, Erased}
 
 -- where reading with equal confidences differs: an unvoiced pitch code, word A does not erase, and word B shows the spare's syndrome
@@ -65,7 +62,3 @@ module _ (g : ℕ → Bool) (q : ℕ → ℕ) where
     -- there the old way erases the frame, and this one reads the data taken
     pub spare-erased : SpareShown g → read g ≡ Erased
     pub spare-read : (k : ℕ) → AllEqual k q → SpareShown g → softRead g q ≡ Accepted (Unvoiced takenIndices) placesDiffering
-
--- in any order of the bits, the bit that stands at a place has the confidence of that place
-abbrev pub PlaceConfidences : Type 0
-PlaceConfidences = (ord : List ℕ) → Order ord → (confidences : List ℕ) (t : ℕ) → t < 54 → confidenceOf ord confidences (getD ord t 0) ≡ getD confidences t 0

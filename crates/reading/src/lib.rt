@@ -1,7 +1,7 @@
 // What a frame's logical bits are read as.
 //
 //   unpacking       the call, and what a frame of each class is read as
-//   soft_unpacking  the same with a confidence for each place of the frame
+//   soft_unpacking  the same with a confidence for each bit
 //   parts           parts of the 54 bits
 //   pitch_code      what the pitch code says
 mod parts;
@@ -17,10 +17,4 @@ pub use unpacking::read;
 pub enum Reading {
     Accepted(ParameterSet, u8),
     Erased,
-}
-
-// What a frame's bits are read as with confidences, or the refusal.
-pub enum ReadAnswer {
-    Read(Reading),
-    Refused(u8),
 }

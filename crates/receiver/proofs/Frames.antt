@@ -4,24 +4,23 @@ use mathlib.Core.List.{List}
 use Prim.Native.Nat.{ℕ, suc, _+_, _-_, _*_}
 use native.Mathlib.Omega.{arith}
 use lib.ListN.{take, drop}
-use Rattle.order.specs.Order.{defaultOrder}
 use Rattle.receiver.specs.declared.Received.{Received}
 use Rattle.records.specs.declared.Record.{Record}
 use Rattle.receiver.specs.Receiving.{receive}
 use Rattle.receiver.specs.Frames.{frameAt, recordAfter, answerAt}
 
-module _ (bytes : List ℕ) (k : ℕ) (r : Record) (x : Received)
-    (h : x ≡ receive defaultOrder r (take (7 * k + 7 - 7 * k) (drop (7 * k) bytes))) (e : r ≡ recordAfter bytes k) where
+module _ (ord bytes : List ℕ) (k : ℕ) (r : Record) (x : Received)
+    (h : x ≡ receive ord r (take (7 * k + 7 - 7 * k) (drop (7 * k) bytes))) (e : r ≡ recordAfter ord bytes k) where
   -- the receiver took frame k
-  received-is : x ≡ receive defaultOrder (recordAfter bytes k) (frameAt bytes k)
+  received-is : x ≡ receive ord (recordAfter ord bytes k) (frameAt bytes k)
   received-is =
       let n : 7 * k + 7 - 7 * k ≡ 7 = omega arith in
-      h ∙ (λ i. receive defaultOrder (e i) (take (n i) (drop (7 * k) bytes)))
+      h ∙ (λ i. receive ord (e i) (take (n i) (drop (7 * k) bytes)))
 
-  pub answer-is : x .answer ≡ answerAt bytes k
+  pub answer-is : x .answer ≡ answerAt ord bytes k
   unfolding answerAt
   answer-is = ap (λ (y : Received). y .answer) received-is
 
-  pub next-is : x .next ≡ recordAfter bytes (suc k)
+  pub next-is : x .next ≡ recordAfter ord bytes (suc k)
   unfolding recordAfter
   next-is = ap (λ (y : Received). y .next) received-is

@@ -43,7 +43,7 @@ sync-alone ord r bytes other d =
 pub sync-differs : (ord : List ℕ) → Order ord → (r : Record) → T (valid r) → (g h : ℕ → Bool) → ((j : ℕ) → j < 53 → g j ≡ h j)
     → SyncDiffers ord r (frameOf ord g) (frameOf ord h)
 sync-differs ord o r v g h same = record {
-  taken = not-refused r (frameOf ord g) (packed-taken ord g) v;
-  other-taken = not-refused r (frameOf ord h) (packed-taken ord h) v;
+  taken = not-refused ord r (frameOf ord g) (packed-taken ord o g) v;
+  other-taken = not-refused ord r (frameOf ord h) (packed-taken ord o h) v;
   same = λ j b. sent-bit ord o g j (omega arith) ∙ same j b ∙ sym (sent-bit ord o h j (omega arith));
 }

@@ -9,7 +9,8 @@ use Rattle.bits.specs.Refusals.{Table, firstRefusal}
 use Rattle.bits.proofs.Tests.{true-T}
 use Rattle.order.specs.Order.{logicalBit, frameTable}
 use Rattle.reading.specs.Reading.{read}
-use Rattle.reading.specs.SoftReading.{confidenceOf, softRead, confidenceTable}
+use Rattle.order.specs.SoftTaking.{confidenceOf, confidenceTable}
+use Rattle.reading.specs.SoftReading.{softRead}
 use Rattle.reading.specs.declared.Reading.{Reading}
 use Rattle.reading.specs.declared.Reading.the-variants.{Accepted, Erased}
 use Rattle.records.specs.Records.{repeatsIn, valid}
@@ -53,6 +54,6 @@ module _ (old : OldRecord) where
   taken-over ord bytes =
       let g = logicalBit ord bytes in
       record {
-        plain = taken-call (λ t. frameTable bytes ++ t) (g 53) (read g);
-        soft = λ confidences. taken-call (λ t. frameTable bytes ++ (confidenceTable confidences ++ t)) (g 53) (softRead g (confidenceOf ord confidences));
+        plain = taken-call (λ t. frameTable ord bytes ++ t) (g 53) (read g);
+        soft = λ confidences. taken-call (λ t. (frameTable ord bytes ++ confidenceTable confidences) ++ t) (g 53) (softRead g (confidenceOf ord confidences));
       }

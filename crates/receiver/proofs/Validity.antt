@@ -6,7 +6,8 @@ use Prim.Native.Nat.{ℕ, zero, suc}
 use lib.Dec.{T}
 use Rattle.order.specs.Order.{logicalBit}
 use Rattle.reading.specs.Reading.{read, readingFits}
-use Rattle.reading.specs.SoftReading.{confidenceOf, softRead}
+use Rattle.order.specs.SoftTaking.{confidenceOf}
+use Rattle.reading.specs.SoftReading.{softRead}
 use Rattle.reading.specs.declared.Reading.{Reading}
 use Rattle.reading.proofs.Ranges.{read-fits}
 use Rattle.reading.proofs.SoftRanges.{soft-read-fits}
@@ -27,13 +28,13 @@ unless-valid (suc n) r sync x v t = v
 -- receiving any bytes leaves a valid record where it was given one
 pub receive-valid : (ord : List ℕ) (r : Record) (bytes : List ℕ) → T (valid r) → T (valid (receive ord r bytes .next))
 unfolding receive
-receive-valid ord r bytes v = unless-valid (receiveRefusal r bytes) r (logicalBit ord bytes 53) (read (logicalBit ord bytes)) v (read-fits (logicalBit ord bytes))
+receive-valid ord r bytes v = unless-valid (receiveRefusal ord r bytes) r (logicalBit ord bytes 53) (read (logicalBit ord bytes)) v (read-fits (logicalBit ord bytes))
 
 -- with confidences too
 soft-valid : (ord : List ℕ) (r : Record) (bytes confidences : List ℕ) → T (valid r) → T (valid (softReceive ord r bytes confidences .next))
 unfolding softReceive
 soft-valid ord r bytes confidences v =
-    unless-valid (softRefusal r bytes confidences) r (logicalBit ord bytes 53) (softRead (logicalBit ord bytes) (confidenceOf ord confidences)) v
+    unless-valid (softRefusal ord r bytes confidences) r (logicalBit ord bytes 53) (softRead (logicalBit ord bytes) (confidenceOf ord confidences)) v
     (soft-read-fits (logicalBit ord bytes) (confidenceOf ord confidences))
 
 pub stays-valid : (ord : List ℕ) (r : Record) (bytes : List ℕ) → StaysValid ord r bytes

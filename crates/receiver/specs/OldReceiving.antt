@@ -6,10 +6,11 @@ use mathlib.Core.List.{List, _++_}
 use Rattle.bits.specs.Refusals.{firstRefusal}
 use Rattle.order.specs.Order.{logicalBit, frameTable}
 use Rattle.order.specs.Fields.{syncBit}
+use Rattle.order.specs.SoftTaking.{confidenceOf, confidenceTable}
 use Rattle.sets.specs.Sets.{indicesIn}
 use Rattle.sets.specs.declared.ParameterSet.{ParameterSet}
 use Rattle.reading.specs.Reading.{read}
-use Rattle.reading.specs.SoftReading.{confidenceOf, softRead, confidenceTable}
+use Rattle.reading.specs.SoftReading.{softRead}
 use Rattle.reading.specs.declared.Reading.{Reading}
 use Rattle.reading.specs.declared.Reading.the-variants as reading
 use Rattle.records.specs.Records.{acceptedKind, repeatedKind, repeatsIn, muted}
@@ -50,10 +51,10 @@ oldUnless (suc n) old sync x = record { answer = Refused (suc n); next = old }
 
 -- a frame without confidences
 unfoldable pub oldReceive : List ℕ → OldRecord → List ℕ → OldReceived
-oldReceive ord old bytes = oldUnless (firstRefusal (frameTable bytes ++ oldTable old)) old (syncBit (logicalBit ord bytes)) (read (logicalBit ord bytes))
+oldReceive ord old bytes = oldUnless (firstRefusal (frameTable ord bytes ++ oldTable old)) old (syncBit (logicalBit ord bytes)) (read (logicalBit ord bytes))
 
 -- and with a confidence for each place
 unfoldable pub oldSoftReceive : List ℕ → OldRecord → List ℕ → List ℕ → OldReceived
 oldSoftReceive ord old bytes confidences =
-    oldUnless (firstRefusal (frameTable bytes ++ (confidenceTable confidences ++ oldTable old))) old (syncBit (logicalBit ord bytes))
+    oldUnless (firstRefusal ((frameTable ord bytes ++ confidenceTable confidences) ++ oldTable old)) old (syncBit (logicalBit ord bytes))
     (softRead (logicalBit ord bytes) (confidenceOf ord confidences))

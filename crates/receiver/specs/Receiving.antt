@@ -1,4 +1,4 @@
--- Document 01, "Receiver" and "Refusals by place": what a receiving call answers and the record it gives, in any order of the bits.
+-- Document 01, "Receiver" and "Refusals by place", with document 02, T-07: what a receiving call answers and the record it gives, in the order that it is lent.
 use Prim.Native.Nat.{ℕ}
 use mathlib.Core.Bool.{not}
 use mathlib.Core.List.{List, [], _∷_, _++_}
@@ -15,17 +15,17 @@ use Rattle.receiver.specs.Steps.{stepUnless}
 abbrev pub recordTable : Record → Table
 recordTable r = (not (valid r), 4) ∷ []
 
--- what refuses a call: what refuses the frame; what refuses the record
-abbrev pub receiveTable : Record → List ℕ → Table
-receiveTable r bytes = frameTable bytes ++ recordTable r
+-- what refuses a call: what refuses the frame in this order; what refuses the record
+abbrev pub receiveTable : List ℕ → Record → List ℕ → Table
+receiveTable ord r bytes = frameTable ord bytes ++ recordTable r
 
 -- its refusal, 0 is none
-abbrev pub receiveRefusal : Record → List ℕ → ℕ
-receiveRefusal r bytes = firstRefusal (receiveTable r bytes)
+abbrev pub receiveRefusal : List ℕ → Record → List ℕ → ℕ
+receiveRefusal ord r bytes = firstRefusal (receiveTable ord r bytes)
 
 -- the frame's logical bits are read, and its sync bit goes to the result
 abbrev pub receiveUnless : ℕ → List ℕ → Record → List ℕ → Received
 receiveUnless n ord r bytes = stepUnless n r (syncBit (logicalBit ord bytes)) (read (logicalBit ord bytes))
 
 unfoldable pub receive : List ℕ → Record → List ℕ → Received
-receive ord r bytes = receiveUnless (receiveRefusal r bytes) ord r bytes
+receive ord r bytes = receiveUnless (receiveRefusal ord r bytes) ord r bytes

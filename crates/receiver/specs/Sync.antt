@@ -25,8 +25,8 @@ withSync sync (Refused n) = Refused n
 module _ (ord : List ℕ) (r : Record) (bytes other : List ℕ) where
   -- frames that are not refused, and whose logical bits 0 to 52 are the same
   pub record SyncDiffers : Type 0 where
-    pub taken : receiveRefusal r bytes ≡ 0
-    pub other-taken : receiveRefusal r other ≡ 0
+    pub taken : receiveRefusal ord r bytes ≡ 0
+    pub other-taken : receiveRefusal ord r other ≡ 0
     pub same : (j : ℕ) → j < 53 → logicalBit ord bytes j ≡ logicalBit ord other j
 
   -- their results differ in the sync bit alone, and the record after them is the same

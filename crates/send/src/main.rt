@@ -1,7 +1,7 @@
 // Packs the parameter sets on standard input, eleven bytes each, and writes their frames to standard output:
 // at most 5,957 sets, which is what 65,536 bytes hold.
 //
-//   frames  the frames of the sets, by a fresh sender
+//   frames  the frames of the sets, in the default order
 mod frames;
 
 // Reads the sets and writes their frames. Bytes past the 65,536th stay unread.

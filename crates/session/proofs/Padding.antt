@@ -10,8 +10,10 @@ use borrow.Author.Tests.{eq-eqb, eqb-true}
 use Rattle.bits.specs.Bits.{ones, value, cut}
 use Rattle.bits.specs.Refusals.{firstRefusal}
 use Rattle.bits.proofs.Cut.{cut-append}
-use Rattle.order.specs.Order.{bitAt, frameRefusal}
+use Rattle.bits.proofs.Tests.{true-T}
+use Rattle.order.specs.Order.{isOrder, defaultOrder, bitAt, frameRefusal}
 use Rattle.order.proofs.Bytes.{padding-is}
+use Rattle.order.proofs.Orders.{default-is-order}
 use Rattle.session.specs.Writing.{isPadded, anyPadded}
 
 -- a frame has padding bits where its last byte is no multiple of 4
@@ -47,15 +49,20 @@ padded-found g k n h p =
     ∙ padded-append (cut g 0 (k + 1)) (cut g (0 + (k + 1)) (n - (k + 1)))
     ∙ ap (λ (b : Bool). b || anyPadded (cut g (0 + (k + 1)) (n - (k + 1)))) (padded-more g k ∙ ap (λ (b : Bool). anyPadded (cut g 0 k) || b) p ∙ or-true (anyPadded (cut g 0 k)))
 
+-- what refuses a frame in the default order: its length and its padding bits
+refusal-is : (f : List ℕ) (a p : Bool) → eqb (length f) 7 ≡ a → isPadded f ≡ p → frameRefusal defaultOrder f ≡ firstRefusal ((not a, 2) ∷ (false, 10) ∷ (p, 3) ∷ [])
+refusal-is f a p e q i = firstRefusal ((not (e i), 2) ∷ (not (true-T (isOrder defaultOrder) default-is-order i), 10) ∷ (q i, 3) ∷ [])
+
 -- seven bytes without padding bits are not refused
-pub good-is : (f : List ℕ) → length f ≡ 7 → isPadded f ≡ false → frameRefusal f ≡ 0
-good-is f e p = rw (eq-eqb (length f) 7 e, p) refl
+pub good-is : (f : List ℕ) → length f ≡ 7 → isPadded f ≡ false → frameRefusal defaultOrder f ≡ 0
+good-is f e p = refusal-is f true false (eq-eqb (length f) 7 e) p
 
 -- no others are so
-pub good-only : (f : List ℕ) → frameRefusal f ≡ 0 → (length f ≡ 7) × (isPadded f ≡ false)
-good-only f r = go (eqb (length f) 7) (isPadded f) refl refl r
+pub good-only : (f : List ℕ) → frameRefusal defaultOrder f ≡ 0 → (length f ≡ 7) × (isPadded f ≡ false)
+good-only f r = go (eqb (length f) 7) (isPadded f) refl refl (sym (refusal-is f (eqb (length f) 7) (isPadded f) refl refl) ∙ r)
   where
-    go : (b p : Bool) → eqb (length f) 7 ≡ b → isPadded f ≡ p → firstRefusal ((not b, 2) ∷ (p, 3) ∷ []) ≡ 0 → (length f ≡ 7) × (isPadded f ≡ false)
+    go : (b p : Bool) → eqb (length f) 7 ≡ b → isPadded f ≡ p → firstRefusal ((not b, 2) ∷ (false, 10) ∷ (p, 3) ∷ []) ≡ 0
+        → (length f ≡ 7) × (isPadded f ≡ false)
     go true true e q r = absurd (omega arith)
     go true false e q r = (eqb-true (length f) 7 e, q)
     go false p e q r = absurd (omega arith)

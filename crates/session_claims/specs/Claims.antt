@@ -5,7 +5,7 @@ use mathlib.Core.Bool.{true}
 use mathlib.Core.List.{List, [], _++_}
 use lib.ListN.{length, take, drop}
 use Rattle.bits.specs.Lists.{Every}
-use Rattle.order.specs.Order.{frameRefusal}
+use Rattle.order.specs.Order.{defaultOrder, frameRefusal}
 use Rattle.session.specs.Format.{fileLine, orderLine, countLine, header, frameLine, frameLines, sessionText, mostFrames, mostText}
 use Rattle.session.specs.Writing.{framesOf, joined, isPadded, textOf, writeRefusal, writeAnswer, writeWrites}
 use Rattle.text.specs.declared.LineAnswer.the-variants.{Written}
@@ -14,9 +14,9 @@ use Rattle.session_reader.specs.Steps.{stepAt}
 use Rattle.session_claims.specs.Reading.{reading}
 use Rattle.session_reader.specs.declared.Answer.the-variants.{Frame, End, Refused}
 
--- a frame without padding bits
+-- a frame in the default order without padding bits
 abbrev pub Good : List ℕ → Type 0
-Good frame = (frameRefusal frame ≡ 0) × Every (λ b. b < 256) frame
+Good frame = (frameRefusal defaultOrder frame ≡ 0) × Every (λ b. b < 256) frame
 
 -- the first bad line of a text, after the lines of good frames fs: its number counts from 1, and `number` is the refusal that it asks for
 pub data FirstBad (text : List ℕ) (fs : List (List ℕ)) (number line : ℕ) : Type 0 where

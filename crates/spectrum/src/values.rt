@@ -18,7 +18,8 @@ pub(crate) struct Spectrum {
 pub(crate) fn of_frame(bytes: &[u8], lsf: &[u8], magnitudes: &[u8]) -> Spectrum
     ensures { λ r. ⌜ r ≡ ofFrame (now (bytes .entry)) (now (lsf .entry)) (now (magnitudes .entry)) ⌝ }
 {
-    let received = receiver::receive(records::fresh(), bytes);
+    let order = order::default_order();
+    let received = receiver::receive(records::fresh(), bytes, &order);
     let answer = received.answer;
     match answer {
         ReceiveAnswer::Refused(n) => refused(n),

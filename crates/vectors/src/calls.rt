@@ -2,11 +2,11 @@
 use crate::choosing;
 use crate::codebooks::codebook_of;
 use crate::frames;
-use crate::packing;
+use crate::orders;
 use crate::parameters;
-use crate::receiving;
 use crate::rows;
 use crate::sessions;
+use crate::set_calls::set_call_agrees;
 use crate::short;
 use crate::soft_words;
 use crate::state;
@@ -14,29 +14,7 @@ use crate::texts;
 use crate::values;
 use crate::vector::byte;
 use crate::vector::number;
-use crate::vector::part;
-use set_bytes::SetAnswer;
-use sets::ParameterSet;
 ghost use Prim.Native.Nat.{_≤_};
-
-// A call with the set in bytes 1 to 11.
-fn call_agrees(r: &[u8; 256], kind: u8, set: ParameterSet) -> bool {
-    match kind {
-        1 => packing::pack_agrees(r, set),
-        12 => parameters::ranges_agree(r, set),
-        14 => state::tests_agree(r, set),
-        34 => state::taken_over_agrees(r, set),
-        _ => receiving::receive_agrees(r, kind, set),
-    }
-}
-
-// The same where these bytes may be those of no set: then no call agrees.
-fn set_call_agrees(r: &[u8; 256], kind: u8) -> bool {
-    match set_bytes::read(part(r, 1, 11)) {
-        SetAnswer::Set(set) => call_agrees(r, kind, set),
-        SetAnswer::Refused(_) => false,
-    }
-}
 
 // Whether the call with the first numbers of this codebook agrees.
 fn lent_agrees(r: &[u8; 256], kind: u8, codebook: &[i64; 3201], size: usize) -> bool
@@ -74,14 +52,27 @@ fn ranged_agrees(r: &[u8; 256], kind: u8) -> bool {
     (kind < 22) & codebook_call_agrees(r, kind)
 }
 
+// The kinds with an order, of at most 60 entries.
+fn ordered_agrees(r: &[u8; 256], kind: u8) -> bool {
+    if !orders::order_fits(r) {
+        return false;
+    }
+    match kind {
+        10 => frames::frame_agrees(r),
+        11 => frames::logical_agrees(r),
+        35 => soft_words::taking_agrees(r),
+        36 => orders::list_agrees(r),
+        _ => set_call_agrees(r, kind),
+    }
+}
+
 // Whether the libraries answer as the vector says.
 pub(crate) fn agrees(r: &[u8; 256]) -> bool {
     let kind = byte(r, 0);
     match kind {
-        1 | 9 | 12 | 14 | 22 | 32 | 33 | 34 => set_call_agrees(r, kind),
+        1 | 9 | 10 | 11 | 22 | 32 | 33 | 35 | 36 => ordered_agrees(r, kind),
+        12 | 14 | 34 => set_call_agrees(r, kind),
         8 => choosing::choice_agrees(r),
-        10 => frames::frame_agrees(r),
-        11 => frames::logical_agrees(r),
         13 => frames::reading_agrees(r),
         15 => state::fresh_agrees(r),
         23 => parameters::reading_agrees(r),
@@ -92,6 +83,7 @@ pub(crate) fn agrees(r: &[u8; 256]) -> bool {
         29 => sessions::line_agrees(r),
         30 => soft_words::choice_agrees(r),
         31 => soft_words::reading_agrees(r),
+        37 => orders::default_agrees(r),
         _ => ranged_agrees(r, kind),
     }
 }

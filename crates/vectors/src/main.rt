@@ -2,14 +2,16 @@
 // is 256 bytes: its kind, the arguments of a call, and what the call must answer.
 //
 //   calls          the call of a vector, by its kind
+//   set_calls      those with a set
 //   vector         the bytes of a vector, and the numbers, parts and sets in them
 //   coder          answers about the pitch code, the words and the levels
 //   short          calls with few bytes: those that `coder` answers
 //   choosing       gain codes
 //   packing        packing
 //   parameters     sets: their ranges and their bytes
+//   orders         the order of a vector, and orders
 //   frames         the 54 bits of a frame, and what a frame is read as
-//   soft_words     words and frames read by confidences
+//   soft_words     words and frames taken and read with confidences
 //   state          a receiver's record
 //   receiving      receiving
 //   in_place       receiving into a record in place, with confidences and without
@@ -28,12 +30,14 @@ mod coder;
 mod digits;
 mod frames;
 mod in_place;
+mod orders;
 mod packing;
 mod parameters;
 mod receiving;
 mod rows;
 mod session_texts;
 mod sessions;
+mod set_calls;
 mod short;
 mod soft_words;
 mod state;

@@ -1,4 +1,5 @@
 // Vectors of packing.
+use crate::orders::order_of;
 use crate::vector::bit;
 use crate::vector::byte;
 use crate::vector::bytes_agree;
@@ -28,6 +29,6 @@ pub(crate) fn pack_agrees(r: &[u8; 256], set: ParameterSet) -> bool {
         return false;
     }
     let mut out = [HELD; 16];
-    let answer = frame::pack(set, byte(r, 12) == 1, &mut out[..room]);
+    let answer = frame::pack(set, byte(r, 12) == 1, order_of(r), &mut out[..room]);
     packed_agrees(r, answer, &out)
 }

@@ -1,6 +1,7 @@
 // Vectors of receiving.
 use crate::in_place::in_place;
 use crate::in_place::soft_in_place;
+use crate::orders::order_of;
 use crate::state::record_agrees;
 use crate::state::record_of;
 use crate::vector::bit;
@@ -56,12 +57,12 @@ fn answer_agrees(r: &[u8; 256], answer: ReceiveAnswer) -> bool {
 }
 
 // A frame into a record: by value in kind 9, in place in kind 22, and the same with confidences in kinds 32 and 33.
-fn received(kind: u8, rec: Record, frame: &[u8], confidences: &[u8]) -> Received {
+fn received(kind: u8, rec: Record, frame: &[u8], order: &[u8], confidences: &[u8]) -> Received {
     match kind {
-        9 => receiver::receive(rec, frame),
-        22 => in_place(rec, frame),
-        32 => receiver::receive_soft(rec, frame, confidences),
-        _ => soft_in_place(rec, frame, confidences),
+        9 => receiver::receive(rec, frame, order),
+        22 => in_place(rec, frame, order),
+        32 => receiver::receive_soft(rec, frame, order, confidences),
+        _ => soft_in_place(rec, frame, order, confidences),
     }
 }
 
@@ -74,6 +75,7 @@ pub(crate) fn receive_agrees(r: &[u8; 256], kind: u8, last: ParameterSet) -> boo
         kind,
         record_of(r, last),
         part(r, 17, size),
+        order_of(r),
         part(r, 62, count),
     );
     let answer = received.answer;

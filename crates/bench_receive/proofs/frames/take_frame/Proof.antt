@@ -31,17 +31,17 @@ receive-requires c κs = tt
 of-answer-requires : tie.Need-of-answer-requires
 of-answer-requires c κs = tt
 
-add-t16 : tie.Need-add-t16
-add-t16 c = omega arith
+add-t17 : tie.Need-add-t17
+add-t17 c = omega arith
 
 returns : tie.Need-returns
 returns c =
     let r = c .before .before .before in
-    let s = r .before .before .before .before in
+    let s = r .before .before .before .before .before in
     let a = s .args in
     let x = r .receive .result in
-    let answer = answer-is (a .bytes .now) (a .k) (a .before .rec) x (r .receive .ensures) (s .pre .1) in
-    let next = next-is (a .bytes .now) (a .k) (a .before .rec) x (r .receive .ensures) (s .pre .1) in
+    let answer = answer-is (a .order .now) (a .bytes .now) (a .k) (a .before .rec) x (r .receive .ensures) (s .pre .1) in
+    let next = next-is (a .order .now) (a .bytes .now) (a .k) (a .before .rec) x (r .receive .ensures) (s .pre .1) in
     (next, (ap (λ n. a .before .sum + n) (c .before .of-answer .ensures .0 ∙ ap answerSum answer), omega arith))
 
 pub take-frame-spec : {M : Type 1} → statement M
@@ -56,5 +56,5 @@ take-frame-spec =
     part-receive-end
     receive-requires
     of-answer-requires
-    add-t16
+    add-t17
     returns)

@@ -10,11 +10,11 @@ use Rattle.bench_soft.proofs.frames.sum_of.Statement.{statement}
 use Rattle.bench_soft.proofs.frames.sum_of.Tie as tie
 
 abbrev Inv-loop : tie.InvT-loop
-Inv-loop bytes total₀ k₀ k-end total k =
-    (k-end ≡ length bytes / 61) × (k ≤ k-end) × (total .rec ≡ recordAfter bytes k) × (total .sum ≡ sumBefore bytes k) × (total .sum ≤ 10000000000 * k)
+Inv-loop order bytes total₀ k₀ k-end total k =
+    (k-end ≡ length bytes / 61) × (k ≤ k-end) × (total .rec ≡ recordAfter order bytes k) × (total .sum ≡ sumBefore order bytes k) × (total .sum ≤ 10000000000 * k)
 
 abbrev μ-loop : tie.MeasureT-loop
-μ-loop bytes total₀ k₀ k-end total k = k-end - k
+μ-loop order bytes total₀ k₀ k-end total k = k-end - k
 
 fresh-requires : tie.Need-fresh-requires Inv-loop μ-loop
 fresh-requires c κs = tt
@@ -40,14 +40,14 @@ unfolding sumBefore
 loop-again c =
     let l = c .before .before in
     let L = l .loop in
-    let bytes = l .before .before .before .args .bytes .now in
+    let a = l .before .before .before .before .args in
     let f = c .take-frame .ensures in
-    rw add-one (L .inv .0, omega arith, f .0, f .1 .0 ∙ ap (λ n. n + answerSum (answerAt bytes (L .k))) (L .inv .3), f .1 .1)
+    rw add-one (L .inv .0, omega arith, f .0, f .1 .0 ∙ ap (λ n. n + answerSum (answerAt (a .order .now) (a .bytes .now) (L .k))) (L .inv .3), f .1 .1)
 
 returns : tie.Need-returns Inv-loop μ-loop
 returns c =
     let L = c .before .loop in
-    let e : L .k ≡ length (c .before .before .before .before .args .bytes .now) / 61 = omega arith in
+    let e : L .k ≡ length (c .before .before .before .before .before .args .bytes .now) / 61 = omega arith in
     rw e at (L .inv .3)
 
 pub sum-of-spec : {M : Type 1} → statement M

@@ -43,17 +43,17 @@ receive-soft-requires c κs = tt
 of-answer-requires : tie.Need-of-answer-requires
 of-answer-requires c κs = tt
 
-add-t21 : tie.Need-add-t21
-add-t21 c = omega arith
+add-t22 : tie.Need-add-t22
+add-t22 c = omega arith
 
 returns : tie.Need-returns
 returns c =
     let r = c .before .before .before in
-    let s = r .before .before .before .before .before in
+    let s = r .before .before .before .before .before .before in
     let a = s .args in
     let x = r .receive-soft .result in
-    let answer = answer-is (a .bytes .now) (a .k) (a .before .rec) x (r .receive-soft .ensures) (s .pre .1) in
-    let next = next-is (a .bytes .now) (a .k) (a .before .rec) x (r .receive-soft .ensures) (s .pre .1) in
+    let answer = answer-is (a .order .now) (a .bytes .now) (a .k) (a .before .rec) x (r .receive-soft .ensures) (s .pre .1) in
+    let next = next-is (a .order .now) (a .bytes .now) (a .k) (a .before .rec) x (r .receive-soft .ensures) (s .pre .1) in
     (next, (ap (λ n. a .before .sum + n) (c .before .of-answer .ensures .0 ∙ ap answerSum answer), omega arith))
 
 pub take-frame-spec : {M : Type 1} → statement M
@@ -72,5 +72,5 @@ take-frame-spec =
     part-receive-soft-end-2
     receive-soft-requires
     of-answer-requires
-    add-t21
+    add-t22
     returns)

@@ -1,7 +1,10 @@
 -- `hear::frames::take_frame` meets its contract: the receiver takes frame k, and its line is added. Assumes nothing.
-use mathlib.Core.Path.{_≡_, refl, ap, _∙_}
+use mathlib.Core.Path.{_≡_, refl, sym, ap, _∙_}
 use Prim.Native.Nat.{_+_}
 use native.Mathlib.Omega.{arith}
+use lib.ListN.{length}
+use Rattle.order.specs.Order.{defaultOrder}
+use Rattle.order.proofs.DefaultOrder.{default-order}
 use Rattle.report.specs.Lines.{frameLine}
 use Rattle.receiver.specs.Frames.{answerAt}
 use Rattle.hear.specs.Call.{repeatOf}
@@ -9,6 +12,9 @@ use Rattle.text.proofs.Additions.{line-added}
 use Rattle.receiver.proofs.Frames.{answer-is, next-is}
 use Rattle.hear.proofs.frames.take_frame.Statement.{statement}
 use Rattle.hear.proofs.frames.take_frame.Tie as tie
+
+default-order-requires : tie.Need-default-order-requires
+default-order-requires c κs = tt
 
 mul-receive : tie.Need-mul-receive
 mul-receive c = omega arith
@@ -27,6 +33,9 @@ part-receive-start c = omega arith
 
 part-receive-end : tie.Need-part-receive-end
 part-receive-end c = omega arith
+
+slice-aggregate-receive : tie.Need-slice-aggregate-receive
+slice-aggregate-receive c = sym (ap length (c .before .before .default-order .ensures) ∙ default-order .size)
 
 receive-requires : tie.Need-receive-requires
 receive-requires c κs = tt
@@ -51,28 +60,32 @@ returns c =
     let l = c .before .before .before in
     let t = l .before .before .before in
     let r = t .before .before in
-    let s = r .before .before .before .before .before .before in
+    let d = r .before .before .before in
+    let s = d .before .before .before .before .before in
     let a = s .args in
     let bytes = a .bytes .now in
     let b = a .before in
     let x = r .receive .result in
-    let ans = answer-is bytes (a .k) (b .rec) x (r .receive .ensures) (s .pre .1) in
-    let n : t .repeat-of .result ≡ repeatOf (answerAt bytes (a .k)) = t .repeat-of .ensures .0 ∙ ap repeatOf ans in
+    let h = rw (d .default-order .ensures) at (r .receive .ensures) in
+    let ans = answer-is defaultOrder bytes (a .k) (b .rec) x h (s .pre .1) in
+    let n : t .repeat-of .result ≡ repeatOf (answerAt defaultOrder bytes (a .k)) = t .repeat-of .ensures .0 ∙ ap repeatOf ans in
     let q = line-added (frameLine (a .k) (x .answer)) (a .out .now) _ (b .end) 144 _ _ (l .frame-line .ensures) (c .end-of .ensures) (s .pre .0 .1) in
     let w = rw ans at q in
-    let next = next-is bytes (a .k) (b .rec) x (r .receive .ensures) (s .pre .1) in
+    let next = next-is defaultOrder bytes (a .k) (b .rec) x h (s .pre .1) in
     (next, (ap (λ n. b .repeats + n) n, (omega (arith, t .repeat-of .ensures .1, s .pre .0 .2), (refl, (w .0, w .1)))))
 
 pub take-frame-spec : {M : Type 1} → statement M
 take-frame-spec =
     tie.close
     (tie.spec
+    default-order-requires
     mul-receive
     mul-receive-2
     add-receive
     sub-receive
     part-receive-start
     part-receive-end
+    slice-aggregate-receive
     receive-requires
     repeat-of-requires
     add-repeats

@@ -4,6 +4,7 @@ use Prim.Native.Nat.{suc, _+_, _-_, _*_, _/_, _≤_}
 use native.Mathlib.Numerals.{add-one}
 use native.Mathlib.Omega.{arith}
 use lib.ListN.{length}
+use Rattle.order.specs.Order.{defaultOrder}
 use Rattle.receiver.specs.Frames.{answerAt, recordAfter}
 use Rattle.hear.specs.Call.{repeatOf, textBefore, repeatsBefore, Pending}
 use Rattle.hear.proofs.Buffer.{pending-more}
@@ -14,7 +15,7 @@ use Rattle.hear.proofs.printing.print_frames.Tie as tie
 abbrev Inv-loop : tie.InvT-loop
 Inv-loop bytes out₀ end progress₀ k₀ k-end out progress k =
     ((k-end ≡ length bytes / 7) × (k ≤ k-end) × (length out ≡ length out₀))
-    × ((progress .rec ≡ recordAfter bytes k) × (progress .repeats ≡ repeatsBefore bytes k) × (progress .repeats ≤ k))
+    × ((progress .rec ≡ recordAfter defaultOrder bytes k) × (progress .repeats ≡ repeatsBefore bytes k) × (progress .repeats ≤ k))
     × (Pending (textBefore bytes k) (progress .sent .count) (progress .end) out × (progress .end ≤ 65536) × (progress .sent .count + progress .end ≤ 22 + 144 * k))
 
 abbrev μ-loop : tie.MeasureT-loop
@@ -64,8 +65,8 @@ loop-again c =
     let bytes = l .before .before .before .before .args .bytes .now in
     let f = t .take-frame .ensures in
     let r = m .make-room .ensures in
-    let n : m .make-room .result .repeats + repeatOf (answerAt bytes (L .k)) ≡ repeatsBefore bytes (suc (L .k)) =
-    ap (λ n. n + repeatOf (answerAt bytes (L .k))) (r .1 .0 ∙ L .inv .1 .1) in
+    let n : m .make-room .result .repeats + repeatOf (answerAt defaultOrder bytes (L .k)) ≡ repeatsBefore bytes (suc (L .k)) =
+    ap (λ n. n + repeatOf (answerAt defaultOrder bytes (L .k))) (r .1 .0 ∙ L .inv .1 .1) in
     let w = pending-more (textBefore bytes (L .k)) _ _ _ (r .1 .1 .0) _ _ _ (f .1 .1 .1 .1 .0) in
     rw add-one (
       (L .inv .0 .0, omega arith, t .take-frame .kept .1 .1 .1 .0 ∙ L .inv .0 .2),

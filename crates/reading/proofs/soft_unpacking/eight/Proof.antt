@@ -1,44 +1,34 @@
 -- `reading::soft_unpacking::eight` meets its contract: after i turns the first i stand in front. Assumes nothing.
-use mathlib.Core.Path.{_≡_, refl, sym, ap, ap₂, _∙_}
+use mathlib.Core.Path.{_≡_, refl, sym, ap₂, _∙_}
 use mathlib.Core.List.{List, _++_}
-use Prim.Native.Nat.{ℕ, _+_, _*_, _-_, _%_, _≤_, _<_}
+use Prim.Native.Nat.{ℕ, _-_, _≤_}
 use native.Mathlib.Omega.{arith}
 use lib.ListN.{length, getD, take, drop, set, replicate}
 use Rattle.bits.specs.Bits.{cut}
 use Rattle.bits.proofs.Cut.{cut-at}
 use Rattle.bits.proofs.Front.{front-more, front-all}
-use Rattle.order.specs.Order.{defaultOrder}
-use Rattle.order.proofs.DefaultOrder.{default-place}
-use Rattle.reading.specs.SoftReading.{confidenceOf}
 use Rattle.reading.proofs.soft_unpacking.eight.Statement.{statement}
 use Rattle.reading.proofs.soft_unpacking.eight.Tie as tie
 
--- the eight, and that each is found by its product
+-- the eight
 abbrev target : List ℕ → ℕ → List ℕ
-target confidences first = cut (confidenceOf defaultOrder confidences) first 8
-
-target-at : (confidences : List ℕ) (first i : ℕ) → first ≤ 46 → i < 8 → getD confidences (7 * (first + i) % 54) 0 ≡ getD (target confidences first) i 0
-target-at confidences first i h k =
-    ap (λ (t : ℕ). getD confidences t 0) (sym (default-place (first + i) (omega arith))) ∙ sym (cut-at 0 (confidenceOf defaultOrder confidences) first 8 i k)
+target confidences first = cut (λ j. getD confidences j 0) first 8
 
 abbrev Inv-loop : tie.InvT-loop
-Inv-loop confidences first found₀ i₀ found i =
+Inv-loop first confidences found₀ i₀ found i =
     (i ≤ 8) × (first ≤ 46) × (length confidences ≡ 54) × (found ≡ take i (target confidences first) ++ drop i (replicate 8 0))
 
 abbrev μ-loop : tie.MeasureT-loop
-μ-loop confidences first found₀ i₀ found i = 8 - i
+μ-loop first confidences found₀ i₀ found i = 8 - i
 
 loop-holds : tie.Need-loop-holds Inv-loop μ-loop
-loop-holds c = (omega arith, c .pre .1, c .pre .0, refl)
+loop-holds c = (omega arith, c .pre, omega arith, refl)
 
 add-found : tie.Need-add-found Inv-loop μ-loop
 add-found c = omega arith
 
-mul-found : tie.Need-mul-found Inv-loop μ-loop
-mul-found c = omega arith
-
-shared-slice-read-found : tie.Need-shared-slice-read-found Inv-loop μ-loop
-shared-slice-read-found c = omega arith
+array-read-found : tie.Need-array-read-found Inv-loop μ-loop
+array-read-found c = omega arith
 
 array-write-found : tie.Need-array-write-found Inv-loop μ-loop
 array-write-found c = omega arith
@@ -51,13 +41,13 @@ loop-less c = omega arith
 
 loop-again : tie.Need-loop-again Inv-loop μ-loop
 loop-again c =
-    let L = c .before .before .loop in
-    let a = c .before .before .before .args in
-    let s = target (a .confidences .now) (a .first) in (
+    let L = c .before .loop in
+    let a = c .before .before .args in
+    let s = target (a .t1) (a .first) in (
       omega arith,
       L .inv .1,
       L .inv .2,
-      ap₂ (λ (d : List ℕ) (x : ℕ). set d (L .i) x) (L .inv .3) (target-at (a .confidences .now) (a .first) (L .i) (L .inv .1) (omega arith))
+      ap₂ (λ (d : List ℕ) (x : ℕ). set d (L .i) x) (L .inv .3) (sym (cut-at 0 (λ j. getD (a .t1) j 0) (a .first) 8 (L .i) (omega arith)))
           ∙ front-more s (replicate 8 0) (L .i) 0 (omega arith) (omega arith),
     )
 
@@ -65,7 +55,7 @@ returns : tie.Need-returns Inv-loop μ-loop
 returns c =
     let L = c .before .loop in
     let a = c .before .before .args in
-    front-all (target (a .confidences .now) (a .first)) (replicate 8 0) (L .found) (L .i) 8 (L .inv .3) (omega arith) (omega arith)
+    front-all (target (a .t1) (a .first)) (replicate 8 0) (L .found) (L .i) 8 (L .inv .3) (omega arith) (omega arith)
 
 pub eight-spec : {M : Type 1} → statement M
 eight-spec =
@@ -75,8 +65,7 @@ eight-spec =
     μ-loop
     loop-holds
     add-found
-    mul-found
-    shared-slice-read-found
+    array-read-found
     array-write-found
     add-i
     loop-less

@@ -4,16 +4,14 @@ use mathlib.Core.Bool.{Bool}
 use mathlib.Core.List.{List}
 use Prim.Native.Nat.{ℕ}
 use native.Mathlib.Omega.{arith}
-use lib.ListN.{length, take}
+use lib.ListN.{length, getD, take}
 use Rattle.bits.specs.Bits.{carried}
 use Rattle.hamming.specs.Word.{Bounded}
 use Rattle.hamming.specs.declared.Decoded.{Decoded}
-use Rattle.order.specs.Order.{defaultOrder}
 use Rattle.order.specs.Fields.{wordA, wordB, wordC, wordD}
 use Rattle.soft.specs.Choice.{choose}
 use Rattle.soft.proofs.Bounds.{choose-bounded}
 use Rattle.reading.specs.Reading.{fromWords}
-use Rattle.reading.specs.SoftReading.{confidenceOf}
 use Rattle.reading.proofs.Shifts.{bits-back}
 use Rattle.reading.proofs.soft_unpacking.soft_unvoiced.Statement.{statement}
 use Rattle.reading.proofs.soft_unpacking.soft_unvoiced.Tie as tie
@@ -22,7 +20,7 @@ part-requires : tie.Need-part-requires
 part-requires c κs = omega arith
 
 eight-requires : tie.Need-eight-requires
-eight-requires c κs = (c .before .before .pre, omega arith)
+eight-requires c κs = omega arith
 
 choose-requires : tie.Need-choose-requires
 choose-requires c κs = tt
@@ -31,7 +29,7 @@ part-requires-2 : tie.Need-part-requires-2
 part-requires-2 c κs = omega arith
 
 eight-requires-2 : tie.Need-eight-requires-2
-eight-requires-2 c κs = (c .before .before .before .before .before .pre, omega arith)
+eight-requires-2 c κs = omega arith
 
 choose-requires-2 : tie.Need-choose-requires-2
 choose-requires-2 c κs = tt
@@ -40,7 +38,7 @@ part-requires-3 : tie.Need-part-requires-3
 part-requires-3 c κs = omega arith
 
 eight-requires-3 : tie.Need-eight-requires-3
-eight-requires-3 c κs = (c .before .before .before .before .before .before .before .before .pre, omega arith)
+eight-requires-3 c κs = omega arith
 
 choose-requires-3 : tie.Need-choose-requires-3
 choose-requires-3 c κs = tt
@@ -49,7 +47,7 @@ part-requires-4 : tie.Need-part-requires-4
 part-requires-4 c κs = omega arith
 
 eight-requires-4 : tie.Need-eight-requires-4
-eight-requires-4 c κs = (c .before .before .before .before .before .before .before .before .before .before .before .pre, omega arith)
+eight-requires-4 c κs = omega arith
 
 choose-requires-4 : tie.Need-choose-requires-4
 choose-requires-4 c κs = tt
@@ -66,13 +64,13 @@ module _ (at-d : tie.After-choose4) where
   at-a = at-b .before .before .before
 
   abbrev start : tie.Start
-  start = at-a .before .before .before .before
+  start = at-a .before .before .before
 
   abbrev g : ℕ → Bool
   g = carried 54 (start .args .bits)
 
   abbrev q : ℕ → ℕ
-  q = confidenceOf defaultOrder (start .args .confidences .now)
+  q j = getD (start .args .confidences) j 0
 
   read-a : at-a .choose .result ≡ choose 8 (wordA q) (wordA g)
   read-a =

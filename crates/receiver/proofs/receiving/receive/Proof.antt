@@ -23,16 +23,15 @@ refuse-requires c κs = tt
 enum-known-bits : tie.Need-enum-known-bits
 enum-known-bits c = omega arith
 
-read-requires : tie.Need-read-requires
-read-requires c κs = tt
-
 is-valid-requires : tie.Need-is-valid-requires
 is-valid-requires c κs = tt
 
+read-requires : tie.Need-read-requires
+read-requires c κs = tt
+
 step-requires : tie.Need-step-requires
 step-requires c κs =
-    let fits = c .before in
-    (sym (fits .is-valid .ensures) ∙ c .if1 .taken, ap readingFits (fits .before .read .ensures) ∙ true-T _ (read-fits _))
+    (sym (c .before .before .is-valid .ensures) ∙ c .before .if1 .taken, ap readingFits (c .read .ensures) ∙ true-T _ (read-fits _))
 
 refuse-requires-2 : tie.Need-refuse-requires-2
 refuse-requires-2 c κs = tt
@@ -41,29 +40,29 @@ returns : tie.Need-returns
 returns c =
     let known = c .before .before in
     let asked = known .before .before in
-    let a = asked .before .before .args in
-    c .refuse .ensures ∙ frame-owes (a .rec) (a .frame .now) _ (sym (asked .logical-bits .ensures) ∙ known .n .given .1)
+    let a = asked .before .before .before .args in
+    c .refuse .ensures ∙ frame-owes (a .order .now) (a .rec) (a .frame .now) _ (sym (asked .logical-bits .ensures) ∙ known .n .given .1)
 
 returns-2 : tie.Need-returns-2
 returns-2 c =
-    let fits = c .before .before in
-    let known = fits .before .before .before in
+    let fits = c .before .before .before in
+    let known = fits .before .before in
     let asked = known .before .before in
-    let a = asked .before .before .args in
+    let a = asked .before .before .before .args in
     let n = known .bits .given .0 .0 in
     c .step .ensures
-    ∙ ap (step (a .rec) (eqb (n % 2) 1)) (fits .before .read .ensures)
-    ∙ step-owes (a .rec) (a .frame .now) n (sym (asked .logical-bits .ensures) ∙ known .bits .given .1)
-    (sym (fits .is-valid .ensures) ∙ c .before .if1 .taken)
+    ∙ ap (step (a .rec) (eqb (n % 2) 1)) (c .before .read .ensures)
+    ∙ step-owes (a .order .now) (a .rec) (a .frame .now) n (sym (asked .logical-bits .ensures) ∙ known .bits .given .1)
+    (sym (fits .is-valid .ensures) ∙ c .before .before .if1 .taken)
 
 returns-3 : tie.Need-returns-3
 returns-3 c =
     let fits = c .before .before in
-    let known = fits .before .before .before in
+    let known = fits .before .before in
     let asked = known .before .before in
-    let a = asked .before .before .args in
+    let a = asked .before .before .before .args in
     c .refuse2 .ensures
-    ∙ record-owes (a .rec) (a .frame .now) _ (sym (asked .logical-bits .ensures) ∙ known .bits .given .1)
+    ∙ record-owes (a .order .now) (a .rec) (a .frame .now) _ (sym (asked .logical-bits .ensures) ∙ known .bits .given .1)
     (sym (fits .is-valid .ensures) ∙ c .before .if1 .left)
 
 pub receive-spec : {M : Type 1} → statement M
@@ -74,8 +73,8 @@ receive-spec =
     enum-known-n
     refuse-requires
     enum-known-bits
-    read-requires
     is-valid-requires
+    read-requires
     step-requires
     refuse-requires-2
     returns

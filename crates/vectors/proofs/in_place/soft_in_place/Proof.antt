@@ -45,7 +45,6 @@ use denote.Triple.Table.{entered, cited}
 use denote.Triple.Walked.{says, Stays, stay-dropped, walkOf, goes-dropped, Walks, ends-at, walked, walk-meets}
 use denote.Exit.{yes}
 use borrow.Table.OneValue.{part-in, part-out}
-use Rattle.order.specs.Order.{defaultOrder}
 use Rattle.receiver.specs.SoftReceiving.{softReceive}
 use Rattle.records.specs.declared.Record.{Record}
 use Rattle.receiver.specs.declared.Received.{Received}
@@ -67,74 +66,81 @@ use Rattle.vectors.proofs.in_place.soft_in_place.Key.{name as #in-place
 use Rattle.vectors.proofs.in_place.soft_in_place.Statement as stated
 use Rattle.vectors.proofs.in_place.soft_in_place.Code as code
 
--- the three parameters: the record, the frame, and the confidences
-abbrev of-rec : Slot 2
+-- the four parameters: the record, the frame, the order, and the confidences
+abbrev of-rec : Slot 3
 of-rec = plain (λ _. rec.the-row)
 
-abbrev of-frame : Slot 2
+abbrev of-frame : Slot 3
 of-frame = shrSliceOf (0 ∷ []) tt (plain (λ _. u8))
 
-abbrev of-confidences : Slot 2
-of-confidences = shrSliceOf (1 ∷ []) tt (plain (λ _. u8))
+abbrev of-order : Slot 3
+of-order = shrSliceOf (1 ∷ []) tt (plain (λ _. u8))
+
+abbrev of-confidences : Slot 3
+of-confidences = shrSliceOf (2 ∷ []) tt (plain (λ _. u8))
 
 -- at the exit nothing is held of any: the record went into the local, and the slices to the call
 abbrev stayed : Stays (in-place.ended .signature .params) (in-place.ended .kept)
-stayed = (stay-dropped of-rec yes, (stay-dropped of-frame yes, (stay-dropped of-confidences yes, tt)))
+stayed = (stay-dropped of-rec yes, (stay-dropped of-frame yes, (stay-dropped of-order yes, (stay-dropped of-confidences yes, tt))))
 
 -- the contract of `receive_soft_in_place`
 abbrev Callee : {M : Type 1} (𝓤 : URA M) (H : Heap 𝓤) (A : Atoms 𝓤) (at-mem : Memory → SProp 𝓤) (run : Routine → Fun 𝓤) → Contract 𝓤
 Callee 𝓤 H A at-mem run = tripleOf 𝓤 H A callee.signature (callee.spec 𝓤 H A at-mem run)
 
--- the record is h, the frame is s and the confidences are t; each slice has its lifetime, κ and κ′, and its share, q and q′
-module _ {M : Type 1} (𝓤 : URA M) (H : Heap 𝓤) (A : Atoms 𝓤) (W : Given 𝓤 H A) (at-mem : Memory → SProp 𝓤) (run : Routine → Fun 𝓤) (κ κ′ : Lft)
-    (q q′ : Share) (h : Record) (s t : RefT (List ℕ)) where
-  -- the machine values of the frame and of the confidences
+-- the record is h, the frame is s, the order t, and the confidences are c; each slice has its lifetime, κ to κ″, and its share, q to q″
+module _ {M : Type 1} (𝓤 : URA M) (H : Heap 𝓤) (A : Atoms 𝓤) (W : Given 𝓤 H A) (at-mem : Memory → SProp 𝓤) (run : Routine → Fun 𝓤) (κ κ′ κ″ : Lft)
+    (q q′ q″ : Share) (h : Record) (s t c : RefT (List ℕ)) where
+  -- the machine values of the frame, of the order and of the confidences
   abbrev v : Val
   v = sliceVal (s .ptr) (length (s .now))
 
   abbrev v′ : Val
   v′ = sliceVal (t .ptr) (length (t .now))
 
-  -- the arguments, and their machine values
-  abbrev a : Record × (RefT (List ℕ) × (RefT (List ℕ) × Unit {0}))
-  a = (h, (s, (t, tt)))
+  abbrev v″ : Val
+  v″ = sliceVal (c .ptr) (length (c .now))
 
-  abbrev at : List Val × (List Val × (List Val × Unit {0}))
-  at = (rec-val h ∷ [], (v ∷ [], (v′ ∷ [], tt)))
+  -- the arguments, and their machine values
+  abbrev a : Record × (RefT (List ℕ) × (RefT (List ℕ) × (RefT (List ℕ) × Unit {0})))
+  a = (h, (s, (t, (c, tt))))
+
+  abbrev at : List Val × (List Val × (List Val × (List Val × Unit {0})))
+  at = (rec-val h ∷ [], (v ∷ [], (v′ ∷ [], (v″ ∷ [], tt))))
 
   -- what receiving gives
   abbrev found : Received
-  found = softReceive defaultOrder h (now s) (now t)
+  found = softReceive (now t) h (now s) (now c)
 
   -- what is owed at the exit
   abbrev Post : Val → SProp 𝓤
-  Post = walkOf 𝓤 H A in-place.ended stayed (in-place.clauses 𝓤 H A at-mem run) .post (((κ, (κ′, tt)), (q, (q′, tt)), tt, a, at), tt)
+  Post = walkOf 𝓤 H A in-place.ended stayed (in-place.clauses 𝓤 H A at-mem run) .post (((κ, (κ′, (κ″, tt))), (q, (q′, (q″, tt))), tt, a, at), tt)
 
   -- what the slices own, and the tokens of their lifetimes
   abbrev Own : Fml
-  Own = owns (ShrSlice (named 0) κ u8 ∷ ShrSlice (named 1) κ′ u8 ∷ []) (s, (t, tt)) (v ∷ [], (v′ ∷ [], tt))
+  Own = owns (ShrSlice (named 0) κ u8 ∷ ShrSlice (named 1) κ′ u8 ∷ ShrSlice (named 2) κ″ u8 ∷ []) (s, (t, (c, tt))) (v ∷ [], (v′ ∷ [], (v″ ∷ [], tt)))
 
   abbrev Held : Item 𝓤
-  Held = ‵ (flft κ q) ⊛ ‵ (flft κ′ q′) ⊛ ‵ ftrue
+  Held = ‵ (flft κ q) ⊛ ‵ (flft κ′ q′) ⊛ ‵ (flft κ″ q″) ⊛ ‵ ftrue
 
   -- the exit: what came back is what is owed
   exits : (r : Received) (u w : Val) → r ≡ found → Is got.the-row r (pair-val u w ∷ []) → ent 𝓤 (⋆ 𝓤 H A (Held ∷ [])) (Post (pair-val u w))
   exits r u w e is =
       qed W (Held ∷ []) ∵
-      suffices ! _ (ends-at 𝓤 H A in-place.ended stayed (in-place.clauses 𝓤 H A at-mem run) W (((κ, (κ′, tt)), (q, (q′, tt)), tt, a, at), tt)
-      (pair-val u w) r (tt, (tt, (tt, tt))) (tt, (tt, (tt, tt)))) $ says ! e $ frame ! $
+      suffices ! _ (ends-at 𝓤 H A in-place.ended stayed (in-place.clauses 𝓤 H A at-mem run) W (((κ, (κ′, (κ″, tt))), (q, (q′, (q″, tt))), tt, a, at), tt)
+      (pair-val u w) r (tt, (tt, (tt, (tt, tt)))) (tt, (tt, (tt, (tt, tt))))) $ says ! e $ frame ! $
       owned ! got.the-row (Is got.the-row) (structs.makes got.the-type got-laws.the-plain 𝓤 H A) r _ is $
-      nothing ! $ nothing ! $ nothing ! $ fjoin3 ! $ nothing ! $ fjoin ! $ done !
+      nothing ! $ nothing ! $ nothing ! $ fjoin3 ! $ nothing ! $ fjoin ! $ nothing ! $ fjoin ! $ done !
 
   -- the local at l is lent for the lifetime ν, under the name γ
   module _ (ν l : ℕ) (γ : GName) where
-    -- the tokens of all three lifetimes
+    -- the tokens of all four lifetimes
     abbrev Tokens : Item 𝓤
     Tokens = ‵ (flft (ν ∷ []) fullShare) ⊛ Held
 
     -- what `receive_soft_in_place` is passed
     abbrev to : Callee 𝓤 H A at-mem run .Ghost
-    to = (((ν ∷ [], (κ, (κ′, tt))), (fullShare, (q, (q′, tt))), tt, (lent h l γ, (s, (t, tt))), (vptr l 0 ∷ [], (v ∷ [], (v′ ∷ [], tt)))), tt)
+    to =
+        (((ν ∷ [], (κ, (κ′, (κ″, tt)))), (fullShare, (q, (q′, (q″, tt)))), tt, (lent h l γ, (s, (t, (c, tt)))), (vptr l 0 ∷ [], (v ∷ [], (v′ ∷ [], (v″ ∷ [], tt))))), tt)
 
     -- what it asks is at hand
     goes : ent 𝓤 (⋆ 𝓤 H A (‵ (Lent h ν l γ) ∷ ‵ Own ∷ Tokens ∷ [])) (Callee 𝓤 H A at-mem run .pre to)
@@ -142,63 +148,66 @@ module _ {M : Type 1} (𝓤 : URA M) (H : Heap 𝓤) (A : Atoms 𝓤) (W : Given
 
     -- what it ensures of its answer x
     abbrev Ensured : ReceiveAnswer → SProp 𝓤
-    Ensured = ensured 𝓤 H A callee.ended (callee.clauses 𝓤 H A at-mem run) (ν ∷ [], (κ, (κ′, tt))) (lent h l γ, (s, (t, tt))) tt
+    Ensured = ensured 𝓤 H A callee.ended (callee.clauses 𝓤 H A at-mem run) (ν ∷ [], (κ, (κ′, (κ″, tt)))) (lent h l γ, (s, (t, (c, tt)))) tt
 
     -- which is that, for the last values that it leaves, the record's first, the two are what receiving gives
-    abbrev Says : ReceiveAnswer → Record × (Unit {0} × (Unit {0} × Unit {0})) → Item 𝓤
-    Says x ws = ‵ (lasts callee.ended (ν ∷ [], (κ, (κ′, tt))) (lent h l γ, (s, (t, tt))) ws) ⊛ raw (sep 𝓤 (fact 𝓤 (x ≡ found .answer)) (fact 𝓤 (ws .0 ≡ found .next)))
+    abbrev Says : ReceiveAnswer → Record × (Unit {0} × (Unit {0} × (Unit {0} × Unit {0}))) → Item 𝓤
+    Says x ws = ‵ (lasts callee.ended (ν ∷ [], (κ, (κ′, (κ″, tt)))) (lent h l γ, (s, (t, (c, tt)))) ws) ⊛ raw (sep 𝓤 (fact 𝓤 (x ≡ found .answer)) (fact 𝓤 (ws .0 ≡ found .next)))
 
   module _ (C : Calls 𝓤 H) (Λ : Loops 𝓤 H) (fm : FmC 𝓤 H (W .laws) C) (known : Triple 𝓤 (C #callee) (Callee 𝓤 H A at-mem run)) where
     -- the walk itself; a comment in brackets lists what is held at that point, from number 0 on
-    walk : Is rec.the-row h (rec-val h ∷ []) → Is (ShrSlice (named 0) κ u8) s (v ∷ []) → Is (ShrSlice (named 1) κ′ u8) t (v′ ∷ [])
-        → ent 𝓤 (onEntry 𝓤 H A in-place.signature (κ, (κ′, tt)) (q, (q′, tt)) a at) (WpFn 𝓤 H C Λ code.function (rec-val h ∷ v ∷ v′ ∷ []) Post)
-    walk is-h is-s is-t =
+    walk : Is rec.the-row h (rec-val h ∷ []) → Is (ShrSlice (named 0) κ u8) s (v ∷ []) → Is (ShrSlice (named 1) κ′ u8) t (v′ ∷ []) → Is (ShrSlice (named 2) κ″ u8) c (v″ ∷ [])
+        → ent 𝓤 (onEntry 𝓤 H A in-place.signature (κ, (κ′, (κ″, tt))) (q, (q′, (q″, tt))) a at) (WpFn 𝓤 H C Λ code.function (rec-val h ∷ v ∷ v′ ∷ v″ ∷ []) Post)
+    walk is-h is-s is-t is-c =
         -- a cell for each local: the result, the parameters, the record that is lent, the answer, the reference, and the copy of the record
-        qed W (Held ∷ ‵ (owns (rec.the-row ∷ ShrSlice (named 0) κ u8 ∷ ShrSlice (named 1) κ′ u8 ∷ []) a at) ∷ []) ∵
-        enter ! C Λ code.function (rec-val h ∷ v ∷ v′ ∷ []) _ $
-        alloc1 ! (λ l₀. alloc1 ! (λ l₁. alloc1 ! (λ l₂. alloc1 ! (λ l₃. alloc1 ! (λ l₄. alloc1 ! (λ l₅. alloc1 ! (λ l₆. alloc1 ! (λ l₇. alloc0 ! $ params1 ! $
-        pass1 ! (init ! 12 refl (rec-typed 𝓤 H A W h _ is-h)) $ pass1 ! (init ! 10 refl (shr-slice-lawful 𝓤 H A W (named 0) κ u8 .typed s (v ∷ []) is-s .0)) $
-        pass1 ! (init ! 8 refl (shr-slice-lawful 𝓤 H A W (named 1) κ′ u8 .typed t (v′ ∷ []) is-t .0)) $ pass0 ! $
-        -- the record is copied into _4, and _6 is its address
-        assigns ! (of-opd ! (load ! (from ! (stop !)) (look ! 12 refl))) (from ! (stop !)) (init ! 6 refl (rec-typed 𝓤 H A W h _ is-h)) $
+        qed W (Held ∷ ‵ (owns (rec.the-row ∷ ShrSlice (named 0) κ u8 ∷ ShrSlice (named 1) κ′ u8 ∷ ShrSlice (named 2) κ″ u8 ∷ []) a at) ∷ []) ∵
+        enter ! C Λ code.function (rec-val h ∷ v ∷ v′ ∷ v″ ∷ []) _ $
+        alloc1 ! (λ l₀. alloc1 ! (λ l₁. alloc1 ! (λ l₂. alloc1 ! (λ l₃. alloc1 ! (λ l₄. alloc1 ! (λ l₅. alloc1 ! (λ l₆. alloc1 ! (λ l₇.
+        alloc1 ! (λ l₈. alloc0 ! $ params1 ! $
+        pass1 ! (init ! 14 refl (rec-typed 𝓤 H A W h _ is-h)) $ pass1 ! (init ! 12 refl (shr-slice-lawful 𝓤 H A W (named 0) κ u8 .typed s (v ∷ []) is-s .0)) $
+        pass1 ! (init ! 10 refl (shr-slice-lawful 𝓤 H A W (named 1) κ′ u8 .typed t (v′ ∷ []) is-t .0)) $
+        pass1 ! (init ! 8 refl (shr-slice-lawful 𝓤 H A W (named 2) κ″ u8 .typed c (v″ ∷ []) is-c .0)) $ pass0 ! $
+        -- the record is copied into _5, and _7 is its address
+        assigns ! (of-opd ! (load ! (from ! (stop !)) (look ! 14 refl))) (from ! (stop !)) (init ! 6 refl (rec-typed 𝓤 H A W h _ is-h)) $
         assigns ! (addr ! (from ! (stop !))) (from ! (stop !)) (init ! 2 refl (tt, tt)) $
-        -- _4 is lent for a new lifetime
-        move ! (17 ∷ []) $ fsplit ! $ move ! (8 ∷ 0 ∷ []) $
-        use2 W (‵ (partAt rec.the-row fullShare h l₄ 0)) (part-in 𝓤 H A W rec.the-row refl fullShare h l₄ 0 (rec-val h)) $ lft-new ! tt (λ ν. move ! (1 ∷ []) $
-        use1 W (later (some (λ (γ : GName). ‵ (Lent h ν l₄ γ) ⊛ ‵ (Lender ν l₄ γ)))) (lends-ref 𝓤 H A W rec.the-row (named 0) (ν ∷ []) h l₄ 0) $
+        -- _5 is lent for a new lifetime
+        move ! (19 ∷ []) $ fsplit ! $ move ! (8 ∷ 0 ∷ []) $
+        use2 W (‵ (partAt rec.the-row fullShare h l₅ 0)) (part-in 𝓤 H A W rec.the-row refl fullShare h l₅ 0 (rec-val h)) $ lft-new ! tt (λ ν. move ! (1 ∷ []) $
+        use1 W (later (some (λ (γ : GName). ‵ (Lent h ν l₅ γ) ⊛ ‵ (Lender ν l₅ γ)))) (lends-ref 𝓤 H A W rec.the-row (named 0) (ν ∷ []) h l₅ 0) $
         await ! tt $ pick ! (λ γ. split ! $
-        -- [the reference; the lender's part; the new token; the slices; _7; …; _6; …; _5; …; …; _3; …; _2; …; _1; …; _0; …; the slices' tokens]
+        -- [the reference; the lender's part; the new token; the slices; _8; …; _7; …; _6; …; …; _4; …; _3; …; _2; …; _1; …; _0; …; the slices' tokens]
         -- `receive_soft_in_place` is called
-        move ! (2 ∷ 19 ∷ []) $ join ! $ move ! (1 ∷ 3 ∷ 0 ∷ []) $ use3 W (raw (Callee 𝓤 H A at-mem run .pre (to ν l₄ γ))) (goes ν l₄ γ) $
-        calls-at ! fm (Callee 𝓤 H A at-mem run) known (to ν l₄ γ)
-        (and-then ! (load ! (from ! (stop !)) (look ! 4 refl)) (and-then ! (load ! (from ! (stop !)) (look ! 11 refl))
-        (and-then ! (load ! (from ! (stop !)) (look ! 9 refl)) (no-more !)))) (λ u.
-        use1 W (later (some (λ (x : ReceiveAnswer). (Tokens ν l₄ γ ⊛ ‵ (ans.the-row .own x (u ∷ []))) ⊛ raw (Ensured ν l₄ γ x)))) (id⊢ 𝓤 _) $ await ! tt $ pick ! (λ x.
-        split ! $ move ! (1 ∷ []) $ use1 W (some (Says ν l₄ γ x)) (id⊢ 𝓤 _) $ pick ! (λ ws. split ! $ move ! (1 ∷ []) $
+        move ! (2 ∷ 21 ∷ []) $ join ! $ move ! (1 ∷ 3 ∷ 0 ∷ []) $ use3 W (raw (Callee 𝓤 H A at-mem run .pre (to ν l₅ γ))) (goes ν l₅ γ) $
+        calls-at ! fm (Callee 𝓤 H A at-mem run) known (to ν l₅ γ)
+        (and-then ! (load ! (from ! (stop !)) (look ! 4 refl)) (and-then ! (load ! (from ! (stop !)) (look ! 13 refl))
+        (and-then ! (load ! (from ! (stop !)) (look ! 11 refl)) (and-then ! (load ! (from ! (stop !)) (look ! 9 refl)) (no-more !))))) (λ u.
+        use1 W (later (some (λ (x : ReceiveAnswer). (Tokens ν l₅ γ ⊛ ‵ (ans.the-row .own x (u ∷ []))) ⊛ raw (Ensured ν l₅ γ x)))) (id⊢ 𝓤 _) $ await ! tt $ pick ! (λ x.
+        split ! $ move ! (1 ∷ []) $ use1 W (some (Says ν l₅ γ x)) (id⊢ 𝓤 _) $ pick ! (λ ws. split ! $ move ! (1 ∷ []) $
         use1 W (raw (fact 𝓤 ((x ≡ found .answer) × (ws .0 ≡ found .next)))) (both-known 𝓤 (x ≡ found .answer) (ws .0 ≡ found .next)) $ heard ! _ (λ e.
         fsplit ! $ move ! (1 ∷ []) $ drop ! $ move ! (1 ∷ []) $ split ! $ split ! $ move ! (2 ∷ []) $
-        -- its answer is put into _5
+        -- its answer is put into _6
         facts ! ans.the-row (Is ans.the-row) (shows 𝓤 H A ans.the-row) x (u ∷ []) (λ is-u.
         land ! (from ! (stop !)) (init ! 8 refl (enums.lawful ans.the-type ans-laws.the-laws 𝓤 H A W tt .typed x _ is-u .0)) $
-        -- [the new token; the slices' tokens; the last record; the lender's part; _7; …; _6; …; _5; …; …; _3; …; _2; …; _1; …; _0; …]
-        -- the lifetime is ended, and _4 is back, with the last record
+        -- [the new token; the slices' tokens; the last record; the lender's part; _8; …; _7; …; _6; …; …; _4; …; _3; …; _2; …; _1; …; _0; …]
+        -- the lifetime is ended, and _5 is back, with the last record
         lft-end ! tt $ move ! (0 ∷ 3 ∷ 2 ∷ []) $
-        use3 W (later (‵ (partAt rec.the-row fullShare (ws .0) l₄ 0))) (ref-back 𝓤 H A W rec.the-row (ν ∷ []) γ (ws .0) l₄ 0) $ await ! tt $
-        use1 W (some (λ (w : Val). ‵ (fat fullShare rec-laws.mir l₄ 0 w) ⊛ ‵ (rec.the-row .own (ws .0) (w ∷ []))))
-        (part-out 𝓤 H A W rec.the-row refl fullShare (ws .0) l₄ 0) $ pick ! (λ w. split ! $ move ! (1 ∷ []) $
+        use3 W (later (‵ (partAt rec.the-row fullShare (ws .0) l₅ 0))) (ref-back 𝓤 H A W rec.the-row (ν ∷ []) γ (ws .0) l₅ 0) $ await ! tt $
+        use1 W (some (λ (w : Val). ‵ (fat fullShare rec-laws.mir l₅ 0 w) ⊛ ‵ (rec.the-row .own (ws .0) (w ∷ []))))
+        (part-out 𝓤 H A W rec.the-row refl fullShare (ws .0) l₅ 0) $ pick ! (λ w. split ! $ move ! (1 ∷ []) $
         facts ! rec.the-row (Is rec.the-row) (shows 𝓤 H A rec.the-row) (ws .0) (w ∷ []) (λ is-w.
         let r : Received = record { answer = x; next = ws .0 } in
         let is : Is got.the-row r (pair-val u w ∷ []) = is-pair r u w is-u is-w in
-        -- [_4; the slices' tokens; _7; …; _6; …; _5; …; …; _3; …; _2; …; _1; …; _0; …]
-        -- the record is copied into _7, and the result is made of the answer and the copy
+        -- [_5; the slices' tokens; _8; …; _7; …; _6; …; …; _4; …; _3; …; _2; …; _1; …; _0; …]
+        -- the record is copied into _8, and the result is made of the answer and the copy
         assigns ! (of-opd ! (load ! (from ! (stop !)) (look ! 0 refl))) (from ! (stop !)) (init ! 2 refl (rec-typed 𝓤 H A W (ws .0) _ is-w)) $
         assigns ! (agg ! (and-then ! (load ! (from ! (stop !)) (look ! 6 refl)) (and-then ! (load ! (from ! (stop !)) (look ! 2 refl)) (no-more !)))) (from ! (stop !))
-        (init ! 15 refl (structs.lawful got.the-type got-laws.the-laws 𝓤 H A W .typed r _ is .0)) $
+        (init ! 17 refl (structs.lawful got.the-type got-laws.the-laws 𝓤 H A W .typed r _ is .0)) $
         -- the result is handed over, and the cells of the locals are given back
-        returns ! (look ! 15 refl) $ forget ! 0 refl $ forget ! 2 refl $ forget ! 4 refl $ forget ! 6 refl $ forget ! 9 refl $ forget ! 11 refl $ forget ! 13 refl $
-        forget ! 15 refl $ move ! (15 ∷ 16 ∷ []) $ free1 ! $ move ! (13 ∷ 14 ∷ []) $ free1 ! $ move ! (11 ∷ 12 ∷ []) $ free1 ! $ move ! (9 ∷ 10 ∷ []) $ free1 ! $
+        returns ! (look ! 17 refl) $ forget ! 0 refl $ forget ! 2 refl $ forget ! 4 refl $ forget ! 6 refl $ forget ! 9 refl $ forget ! 11 refl $ forget ! 13 refl $
+        forget ! 15 refl $ forget ! 17 refl $ move ! (17 ∷ 18 ∷ []) $ free1 ! $ move ! (15 ∷ 16 ∷ []) $ free1 ! $ move ! (13 ∷ 14 ∷ []) $ free1 ! $
+        move ! (11 ∷ 12 ∷ []) $ free1 ! $ move ! (9 ∷ 10 ∷ []) $ free1 ! $
         move ! (0 ∷ 8 ∷ []) $ free1 ! $ move ! (5 ∷ 6 ∷ []) $ free1 ! $ move ! (3 ∷ 4 ∷ []) $ free1 ! $ move ! (1 ∷ 2 ∷ []) $ free1 ! $ free0 ! $
-        by ! (exits r u w (λ i. record { answer = e .0 i; next = e .1 i }) is))))))))))))))))))
+        by ! (exits r u w (λ i. record { answer = e .0 i; next = e .1 i }) is)))))))))))))))))))
 
 module _ {M : Type 1} (𝓤 : URA M) (H : Heap 𝓤) (A : Atoms 𝓤) (W : Given 𝓤 H A) (at-mem : Memory → SProp 𝓤) (run : Routine → Fun 𝓤) where
   -- the walk from any arguments
@@ -206,20 +215,26 @@ module _ {M : Type 1} (𝓤 : URA M) (H : Heap 𝓤) (A : Atoms 𝓤) (W : Given
       → Walks 𝓤 H A in-place.ended stayed (WpFn 𝓤 H C Λ code.function) (in-place.clauses 𝓤 H A at-mem run)
   in-place-walks C Λ fm known =
       walked 𝓤 H A in-place.ended stayed (in-place.clauses 𝓤 H A at-mem run) (WpFn 𝓤 H C Λ code.function)
-      (λ κs. (structs.vals rec.the-type rec-laws.the-laws, (slice-vals, (slice-vals, tt))))
-      (λ κs. (structs.tells rec.the-type rec-laws.the-laws, (shr-slice-tells (named 0) (κs .0) u8, (shr-slice-tells (named 1) (κs .1 .0) u8, tt))))
-      (λ κs qs bounds a g are. via 𝓤 _ (fst∗ 𝓤 _ (emp 𝓤)) (walk 𝓤 H A W at-mem run (κs .0) (κs .1 .0) (qs .0) (qs .1 .0) (a .0) (a .1 .0) (a .1 .1 .0)
-      C Λ fm known (are .0) (are .1 .0) (are .1 .1 .0)))
+      (λ κs. (structs.vals rec.the-type rec-laws.the-laws, (slice-vals, (slice-vals, (slice-vals, tt)))))
+      (λ κs. (
+        structs.tells rec.the-type rec-laws.the-laws,
+        (
+          shr-slice-tells (named 0) (κs .0) u8,
+          (shr-slice-tells (named 1) (κs .1 .0) u8, (shr-slice-tells (named 2) (κs .1 .1 .0) u8, tt)),
+        ),
+      ))
+      (λ κs qs bounds a g are. via 𝓤 _ (fst∗ 𝓤 _ (emp 𝓤)) (walk 𝓤 H A W at-mem run (κs .0) (κs .1 .0) (κs .1 .1 .0) (qs .0) (qs .1 .0) (qs .1 .1 .0)
+      (a .0) (a .1 .0) (a .1 .1 .0) (a .1 .1 .1 .0) C Λ fm known (are .0) (are .1 .0) (are .1 .1 .0) (are .1 .1 .1 .0)))
 
   -- where `receive_soft_in_place` meets its contract, so does `soft_in_place`
   in-place-meets : (𝓣 : Tables 𝓤 H) → Triple 𝓤 (𝓣 .C #callee) (Callee 𝓤 H A at-mem run)
       → Meets 𝓤 H A in-place.signature (WpFn 𝓤 H (𝓣 .C) (𝓣 .Λ) code.function) (in-place.spec 𝓤 H A at-mem run)
   in-place-meets 𝓣 known =
       walk-meets 𝓤 H A in-place.ended stayed W (
-        goes-dropped 𝓤 H A W 2 of-rec yes (λ κs x f. refl),
+        goes-dropped 𝓤 H A W 3 of-rec yes (λ κs x f. refl),
         (
-          goes-dropped 𝓤 H A W 2 of-frame yes (λ κs x f. refl),
-          (goes-dropped 𝓤 H A W 2 of-confidences yes (λ κs x f. refl), tt),
+          goes-dropped 𝓤 H A W 3 of-frame yes (λ κs x f. refl),
+          (goes-dropped 𝓤 H A W 3 of-order yes (λ κs x f. refl), (goes-dropped 𝓤 H A W 3 of-confidences yes (λ κs x f. refl), tt)),
         ),
       )
       (in-place.clauses 𝓤 H A at-mem run) (WpFn 𝓤 H (𝓣 .C) (𝓣 .Λ) code.function) (WpFn-mono 𝓤 H (W .laws) 𝓣 code.function)

@@ -14,11 +14,14 @@ returns c = tt
 byte-requires : tie.Need-byte-requires
 byte-requires c κs = tt
 
+order-of-requires : tie.Need-order-of-requires
+order-of-requires c κs = tt
+
 array-borrow-prefix-out : tie.Need-array-borrow-prefix-out
 array-borrow-prefix-out c = omega arith
 
 slice-aggregate-pack : tie.Need-slice-aggregate-pack
-slice-aggregate-pack c = sym (length-take-le _ _ (c .before .before .if1 .left))
+slice-aggregate-pack c = sym (length-take-le _ _ (c .before .before .before .if1 .left))
 
 pack-requires : tie.Need-pack-requires
 pack-requires c κs = tt
@@ -36,6 +39,7 @@ pack-agrees-spec =
     number-requires
     returns
     byte-requires
+    order-of-requires
     array-borrow-prefix-out
     slice-aggregate-pack
     pack-requires

@@ -1,0 +1,4 @@
+pub mod Flips
+pub mod Width
+pub mod Distances
+pub mod Claims

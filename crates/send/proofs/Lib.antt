@@ -1,3 +1,0 @@
-pub mod Tails
-pub mod Answers
-pub mod Turns

@@ -1,0 +1,4 @@
+pub mod Tails
+pub mod Packing
+pub mod Turns
+pub mod Room
