@@ -11,7 +11,7 @@ use lib.ListN.{length, getD}
 use borrow.Author.Tests.{lt-ltb, le-ltb, ltb-true, ltb-false}
 use Rattle.bits.specs.Bits.{_⊻_}
 use Rattle.bits.proofs.Cut.{cut-length, cut-at}
-use Rattle.order.specs.Order.{Order, placeOf, placed, byteOf, frameOf, bitAt, logicalBit, padding, through}
+use Rattle.order.specs.Order.{Order, placeOf, placed, byteOf, frameOf, bitAt, NamedPlaces, logicalBit, padding, through}
 use Rattle.order.proofs.Places.{entry-back, place-lt, place-back}
 use Rattle.order.proofs.Bytes.{place-bit, bytes-ext, bytes-back}
 
@@ -19,7 +19,12 @@ use Rattle.order.proofs.Bytes.{place-bit, bytes-ext, bytes-back}
 pub placed-below : (ord : List ℕ) (g : ℕ → Bool) (t : ℕ) → t < 54 → placed ord g t ≡ g (getD ord t 0)
 placed-below ord g t h = rw (lt-ltb t 54 h) refl
 
-pub placed-past : (ord : List ℕ) (g : ℕ → Bool) (t : ℕ) → 54 ≤ t → placed ord g t ≡ false
+-- so entry t names the bit at place t
+pub named-places : NamedPlaces
+unfolding frameOf
+named-places ord g t h = place-bit (placed ord g) t (omega arith) ∙ placed-below ord g t h
+
+placed-past : (ord : List ℕ) (g : ℕ → Bool) (t : ℕ) → 54 ≤ t → placed ord g t ≡ false
 placed-past ord g t h = rw (le-ltb t 54 h) refl
 
 module _ (ord : List ℕ) (o : Order ord) (g : ℕ → Bool) where

@@ -62,6 +62,10 @@ frameOf ord g = bytesOf (placed ord g)
 unfoldable pub bitAt : List ℕ → ℕ → Bool
 bitAt bytes t = getD (bits 8 (getD bytes (t / 8) 0)) (t % 8) false
 
+-- what is claimed of a frame in any order: at place t stands the bit that entry t names
+abbrev pub NamedPlaces : Type 0
+NamedPlaces = (ord : List ℕ) (g : ℕ → Bool) (t : ℕ) → t < 54 → bitAt (frameOf ord g) t ≡ g (getD ord t 0)
+
 -- logical bit j of a frame
 abbrev pub logicalBit : List ℕ → List ℕ → ℕ → Bool
 logicalBit ord bytes j = bitAt bytes (placeOf ord j)

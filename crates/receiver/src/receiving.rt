@@ -29,8 +29,9 @@ pub fn receive(rec: Record, frame: &[u8], order: &[u8]) -> Received
     match logical_bits(frame, order) {
         BitsAnswer::Refused(n) => refuse(rec, n),
         BitsAnswer::Bits(bits) => {
+            let reading = read(bits);
             if is_valid(rec) {
-                step(rec, bits % 2 == 1, read(bits))
+                step(rec, bits % 2 == 1, reading)
             } else {
                 refuse(rec, 4)
             }

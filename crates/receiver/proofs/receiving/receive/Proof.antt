@@ -23,15 +23,16 @@ refuse-requires c κs = tt
 enum-known-bits : tie.Need-enum-known-bits
 enum-known-bits c = omega arith
 
-is-valid-requires : tie.Need-is-valid-requires
-is-valid-requires c κs = tt
-
 read-requires : tie.Need-read-requires
 read-requires c κs = tt
 
+is-valid-requires : tie.Need-is-valid-requires
+is-valid-requires c κs = tt
+
 step-requires : tie.Need-step-requires
 step-requires c κs =
-    (sym (c .before .before .is-valid .ensures) ∙ c .before .if1 .taken, ap readingFits (c .read .ensures) ∙ true-T _ (read-fits _))
+    let fits = c .before in
+    (sym (fits .is-valid .ensures) ∙ c .if1 .taken, ap readingFits (fits .before .read .ensures) ∙ true-T _ (read-fits _))
 
 refuse-requires-2 : tie.Need-refuse-requires-2
 refuse-requires-2 c κs = tt
@@ -45,20 +46,20 @@ returns c =
 
 returns-2 : tie.Need-returns-2
 returns-2 c =
-    let fits = c .before .before .before in
-    let known = fits .before .before in
+    let fits = c .before .before in
+    let known = fits .before .before .before in
     let asked = known .before .before in
     let a = asked .before .before .before .args in
     let n = known .bits .given .0 .0 in
     c .step .ensures
-    ∙ ap (step (a .rec) (eqb (n % 2) 1)) (c .before .read .ensures)
+    ∙ ap (step (a .rec) (eqb (n % 2) 1)) (fits .before .read .ensures)
     ∙ step-owes (a .order .now) (a .rec) (a .frame .now) n (sym (asked .logical-bits .ensures) ∙ known .bits .given .1)
-    (sym (fits .is-valid .ensures) ∙ c .before .before .if1 .taken)
+    (sym (fits .is-valid .ensures) ∙ c .before .if1 .taken)
 
 returns-3 : tie.Need-returns-3
 returns-3 c =
     let fits = c .before .before in
-    let known = fits .before .before in
+    let known = fits .before .before .before in
     let asked = known .before .before in
     let a = asked .before .before .before .args in
     c .refuse2 .ensures
@@ -73,8 +74,8 @@ receive-spec =
     enum-known-n
     refuse-requires
     enum-known-bits
-    is-valid-requires
     read-requires
+    is-valid-requires
     step-requires
     refuse-requires-2
     returns
