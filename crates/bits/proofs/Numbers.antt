@@ -1,11 +1,10 @@
--- Bits carried in one number: a bit is a shift, a part of them a shift and a remainder, and bits are gathered into a number one by one or in groups.
+-- Bits carried in one number: a bit is a shift, a part of them a shift and a remainder, and bits are gathered into a number one by one or several at once.
 -- Assumes nothing.
 use mathlib.Core.Path.{_≡_, sym, ap, _∙_}
 use mathlib.Core.Bool.{Bool, false}
 use mathlib.Core.List.{List}
 use Prim.Native.Nat.{ℕ, suc, _+_, _*_, _-_, _/_, _%_, _^_, _≤_, _<_}
-use native.Mathlib.Nat.{zero-add, mul-suc, lt-of-lt-of-le}
-use native.Mathlib.Numerals.{add-one}
+use native.Mathlib.Nat.{zero-add, lt-of-lt-of-le}
 use native.Mathlib.Omega.{arith}
 use lib.ListN.{getD, take}
 use lib.Pow.{pow-mono}
@@ -33,12 +32,6 @@ value-more h a n m x y e f =
 -- one place more
 pub bit-more : (h : ℕ → Bool) (a n x b : ℕ) → x ≡ value (cut h a n) → b ≡ bitNum (h (a + n)) → x * 2 + b ≡ value (cut h a (n + 1))
 bit-more h a n x b e f = value-more h a n 1 x b e (omega arith)
-
--- one group of k places more
-pub group-more : (h : ℕ → Bool) (k i x y : ℕ) → x ≡ value (cut h 0 (k * i)) → y ≡ value (cut h (k * i) k) → x * 2 ^ k + y ≡ value (cut h 0 (k * (i + 1)))
-group-more h k i x y e f =
-    value-more h 0 (k * i) k x y e (f ∙ ap (λ (s : ℕ). value (cut h s k)) (sym (zero-add (k * i))))
-    ∙ ap (λ (n : ℕ). value (cut h 0 n)) (sym (ap (λ (j : ℕ). k * j) (add-one i) ∙ mul-suc k i))
 
 -- at most m places stay below 2 ^ m
 pub cut-value-lt : (h : ℕ → Bool) (a n m x : ℕ) → n ≤ m → x ≡ value (cut h a n) → x < 2 ^ m

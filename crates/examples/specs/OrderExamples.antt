@@ -1,7 +1,7 @@
 -- Worked out by hand: orders of a contractor's own (document 02, T-07), by the set of example 6.
 use Prim.Native.Nat.{ℕ, _-_}
 use mathlib.Core.Path.{_≡_}
-use mathlib.Core.Bool.{Bool, true, false}
+use mathlib.Core.Bool.{true, false}
 use mathlib.Core.List.{List, [], _∷_}
 use lib.ListN.{drop, replicate}
 use Rattle.bits.specs.Bits.{cut}

@@ -3,7 +3,7 @@
 use mathlib.Core.Path.{_≡_, refl, sym, ap, _∙_}
 use mathlib.Core.Bool.{Bool, true, false, not}
 use mathlib.Core.List.{List, [], _∷_}
-use Prim.Native.Nat.{ℕ, zero, suc, _+_, _*_, _%_, _<_}
+use Prim.Native.Nat.{ℕ, zero, suc, _+_, _*_, _-_, _%_, _≤_, _<_}
 use native.Mathlib.Omega.{arith}
 use lib.Dec.{eqb}
 use lib.ListN.{length, getD}
@@ -11,7 +11,7 @@ use borrow.Author.Tests.{eq-eqb, ne-eqb}
 use Rattle.bits.specs.Bits.{ones, value, cut, carried}
 use Rattle.bits.specs.Refusals.{firstRefusal}
 use Rattle.bits.proofs.Cut.{cut-ext}
-use Rattle.bits.proofs.Numbers.{group-more, carried-back}
+use Rattle.bits.proofs.Numbers.{value-more, carried-back}
 use Rattle.order.specs.Order.{Order, isOrder, placeOf, bitAt, logicalBit, padding, frameRefusal}
 use Rattle.order.specs.Taking.{bitsNumber, bitsUnless, bitsAnswer}
 use Rattle.order.specs.declared.BitsAnswer.the-variants.{Bits, Refused}
@@ -26,10 +26,21 @@ ones-value-zero false true = refl
 ones-value-zero false false = refl
 
 module _ (bytes : List ℕ) where
-  -- one byte more
-  pub byte-more : (i x : ℕ) → getD bytes i 0 < 256 → x ≡ value (cut (bitAt bytes) 0 (8 * i))
-      → x * 256 + getD bytes i 0 ≡ value (cut (bitAt bytes) 0 (8 * (i + 1)))
-  byte-more i x h e = group-more (bitAt bytes) 8 i x (getD bytes i 0) e (sym (byte-back bytes i h))
+  -- one byte more of those from a byte on
+  pub byte-more : (first i x : ℕ) → first ≤ i → getD bytes i 0 < 256 → x ≡ value (cut (bitAt bytes) (8 * first) (8 * (i - first)))
+      → x * 256 + getD bytes i 0 ≡ value (cut (bitAt bytes) (8 * first) (8 * (i + 1 - first)))
+  byte-more first i x l h e =
+      let at : 8 * first + 8 * (i - first) ≡ 8 * i = omega arith in
+      let more : 8 * (i - first) + 8 ≡ 8 * (i + 1 - first) = omega arith in
+      value-more (bitAt bytes) (8 * first) (8 * (i - first)) 8 x (getD bytes i 0) e
+      (sym (byte-back bytes i h) ∙ ap (λ (k : ℕ). value (cut (bitAt bytes) k 8)) (sym at))
+      ∙ ap (λ (n : ℕ). value (cut (bitAt bytes) (8 * first) n)) more
+
+  -- four bytes, two and one are all 56 places
+  pub bytes-all : (x y z : ℕ) → x ≡ value (cut (bitAt bytes) 0 32) → y ≡ value (cut (bitAt bytes) 32 16) → z ≡ value (cut (bitAt bytes) 48 8)
+      → (x * 65536 + y) * 256 + z ≡ value (cut (bitAt bytes) 0 56)
+  bytes-all x y z e f g =
+      value-more (bitAt bytes) 0 48 8 (x * 65536 + y) z (value-more (bitAt bytes) 0 32 16 x y e f) g
 
   -- the padding is clear where the last byte is a multiple of 4
   padding-test : eqb (ones (padding bytes)) 0 ≡ eqb (getD bytes 6 0 % 4) 0

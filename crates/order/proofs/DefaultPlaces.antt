@@ -8,7 +8,7 @@ use native.Mathlib.Omega.{arith}
 use lib.Dec.{ltb, lit<}
 use lib.ListN.{getD}
 use borrow.Author.Tests.{ltb-true, ltb-false}
-use Rattle.bits.specs.Bits.{value, bit, bits, cut, carried}
+use Rattle.bits.specs.Bits.{value, bits, cut, carried}
 use Rattle.bits.proofs.Bitwise.{zero-bit}
 use Rattle.bits.proofs.Cut.{cut-ext, cut-getD}
 use Rattle.bits.proofs.Digits.{value-bits, bits-at}

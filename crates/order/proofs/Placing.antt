@@ -3,7 +3,7 @@
 use mathlib.Core.Path.{_≡_, refl, sym, ap, _∙_}
 use mathlib.Core.Bool.{Bool, true, false, not}
 use mathlib.Core.List.{List, [], _∷_}
-use Prim.Native.Nat.{ℕ, zero, suc, _+_, _*_, _-_, _/_, _%_, _^_, _<_}
+use Prim.Native.Nat.{ℕ, suc, _+_, _*_, _-_, _/_, _%_, _^_, _<_}
 use native.Mathlib.Nat.{mod-lt, zero-add, add-zero}
 use native.Mathlib.Omega.{arith}
 use lib.Dec.{lit<}
@@ -15,7 +15,6 @@ use Rattle.bits.proofs.Digits.{bit-is, bits-at}
 use Rattle.bits.proofs.Numbers.{bit-more, value-more, carried-back}
 use Rattle.order.specs.Order.{isOrder, placed, byteOf, frameOf}
 use Rattle.order.specs.Placing.{placedUnless, placedBits}
-use Rattle.order.specs.declared.Placed.{Placed}
 use Rattle.order.proofs.Bytes.{bytes-ext}
 use Rattle.order.proofs.Frames.{placed-below}
 

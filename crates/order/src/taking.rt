@@ -4,22 +4,31 @@ use crate::list::each_once;
 use crate::list::is_default;
 ghost use mathlib.Core.Path.{_≡_};
 ghost use mathlib.Core.Bool.{true};
-ghost use Prim.Native.Nat.{_^_, _<_};
+ghost use Prim.Native.Nat.{_*_, _-_, _^_, _≤_, _<_};
 ghost use lib.ListN.{length};
 ghost use Rattle.bits.specs.Bits.{value, cut, carried};
 ghost use Rattle.order.specs.Order.{isOrder, defaultOrder, placeOf, bitAt};
 ghost use Rattle.order.specs.Taking.{OneNamed, bitsAnswer};
 
-// The 56 places of seven bytes as one number, place 0 the most significant bit.
+// Some of seven bytes as one number, most significant first.
+fn bytes_from(frame: &[u8], first: usize, end: usize) -> u64
+    requires { ⌜ (length (now frame) ≡ 7) × (first ≤ end) × (end ≤ 7) ⌝ }
+    ensures { λ r. ⌜ r ≡ value (cut (bitAt (now (frame .entry))) (8 * first) (8 * (end - first))) ⌝ }
+{
+    let mut number: u64 = 0;
+    for i in first..end {
+        number = number * 256 + frame[i] as u64;
+    }
+    number
+}
+
+// The 56 places of seven bytes as one number, place 0 the most significant bit. Four bytes, and two, are what a processor loads
+// at once.
 fn placed_bits(frame: &[u8]) -> u64
     requires { ⌜ length (now frame) ≡ 7 ⌝ }
     ensures { λ r. ⌜ r ≡ value (cut (bitAt (now (frame .entry))) 0 56) ⌝ }
 {
-    let mut placed: u64 = 0;
-    for i in 0..7 {
-        placed = placed * 256 + frame[i] as u64;
-    }
-    placed
+    (bytes_from(frame, 0, 4) * 65536 + bytes_from(frame, 4, 6)) * 256 + bytes_from(frame, 6, 7)
 }
 
 // The 54 logical bits in the default order, from their places. Those that stand as far from where they go move together, by a shift and a mask.

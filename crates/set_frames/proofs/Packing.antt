@@ -17,7 +17,7 @@ use Rattle.frame.specs.Packing.{setRefusal, packAnswer, packWrites}
 use Rattle.frame.specs.declared.PackAnswer.{PackAnswer}
 use Rattle.frame.specs.declared.PackAnswer.the-variants.{Packed, Refused}
 use Rattle.frame.proofs.Answers.{tested-owes}
-use Rattle.set_bytes.specs.SetBytes.{setIn, isSet, readAnswer}
+use Rattle.set_bytes.specs.SetBytes.{setIn, readAnswer}
 use Rattle.set_bytes.specs.declared.SetAnswer.{SetAnswer}
 use Rattle.set_bytes.specs.declared.SetAnswer.the-variants as form
 use Rattle.set_frames.specs.Sending.{bytesAt, taken, frameOf, bytesRefusal, setAnswer, setWrites}

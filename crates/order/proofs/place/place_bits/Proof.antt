@@ -1,5 +1,5 @@
 -- `order::place::place_bits` meets its contract: a list that is the default order is placed as that, any other order place by place. Assumes nothing.
-use mathlib.Core.Path.{_≡_, sym, ap, _∙_}
+use mathlib.Core.Path.{sym, ap, _∙_}
 use mathlib.Core.List.{List}
 use Prim.Native.Nat.{ℕ}
 use native.Mathlib.Omega.{arith}

@@ -1,12 +1,11 @@
 -- `order::place::place_each` meets its contract: after t turns the first t places are joined. Assumes nothing.
-use mathlib.Core.Path.{_≡_, refl, ap, _∙_, subst}
-use Prim.Native.Nat.{ℕ, _*_, _-_, _%_, _^_, _≤_, _<_}
+use mathlib.Core.Path.{_≡_, refl, ap, _∙_}
+use Prim.Native.Nat.{ℕ, _-_, _≤_}
 use native.Mathlib.Omega.{arith}
-use lib.ListN.{length, getD}
 use Rattle.bits.specs.Bits.{value, cut, carried}
 use Rattle.bits.proofs.Numbers.{cut-value-lt}
 use Rattle.bits.proofs.Tests.{T-true}
-use Rattle.order.specs.Order.{Order, isOrder, placed}
+use Rattle.order.specs.Order.{Order, placed}
 use Rattle.order.proofs.Orders.{is-order-only}
 use Rattle.order.proofs.Places.{entry-lt}
 use Rattle.order.proofs.Placing.{place-more, places-all}

@@ -1,5 +1,5 @@
 -- `order::taking::logical_bits` meets its contract: the tests decide the refusal, and a list that is the default order is taken as that. Assumes nothing.
-use mathlib.Core.Path.{_≡_, sym, ap, _∙_}
+use mathlib.Core.Path.{sym, ap, _∙_}
 use mathlib.Core.List.{List}
 use Prim.Native.Nat.{ℕ}
 use native.Mathlib.Omega.{arith}

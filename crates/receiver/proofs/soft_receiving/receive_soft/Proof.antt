@@ -1,5 +1,5 @@
 -- `receiver::soft_receiving::receive_soft` meets its contract: each case owes what the law of that case says. Assumes nothing.
-use mathlib.Core.Path.{_≡_, sym, ap, _∙_}
+use mathlib.Core.Path.{sym, ap, _∙_}
 use Prim.Native.Nat.{_%_}
 use lib.Dec.{eqb}
 use Rattle.bits.proofs.Tests.{true-T}

@@ -7,7 +7,7 @@ use lib.ListN.{length, drop}
 use borrow.Author.Tests.{lt-ltb, le-ltb}
 use Rattle.bits.specs.Lists.{writtenUnless}
 use Rattle.set_frames.specs.Sending.{setsIn, sent, framesRefusal, framesUnless, framesAnswer, framesWrites}
-use Rattle.set_frames.specs.declared.FramesAnswer.the-variants.{Packed, Refused}
+use Rattle.set_frames.specs.declared.FramesAnswer.the-variants.{Packed}
 use Rattle.set_frames.proofs.frames.pack_sets.Statement.{statement}
 use Rattle.set_frames.proofs.frames.pack_sets.Tie as tie
 
