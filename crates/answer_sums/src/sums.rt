@@ -1,14 +1,14 @@
 // What one answer adds to the sum: all its numbers. The bounds are those of their types.
 ghost use Rattle.std.specs.Prelude.{◌≡◌, ◌≤◌};
-ghost use Rattle.bits.specs.Bits.{bitNum};
-ghost use Rattle.answer_sums.specs.Sums.{indicesSum, voicingSum, setSum, kindSum, resultSum, answerSum};
+ghost use Rattle.bits.specs.Bits.{bit_num};
+ghost use Rattle.answer_sums.specs.Sums.{indices_sum, voicing_sum, set_sum, kind_sum, result_sum, answer_sum};
 
 use receiver::{FrameResult, Kind, ReceiveAnswer};
 use sets::{Indices, ParameterSet, Voicing};
 
 // The indices of a set.
 fn of_indices(x: Indices) -> u64
-    ensures number { result ≡ indicesSum x }
+    ensures number { result ≡ indices_sum x }
     ensures bound { result ≤ 1530 }
 {
     x.l1 as u64 + x.l2 as u64 + x.l3 as u64 + x.l4 as u64 + x.g2 as u64 + x.g1 as u64
@@ -16,7 +16,7 @@ fn of_indices(x: Indices) -> u64
 
 // What a voiced set has more.
 fn of_voicing(v: Voicing) -> u64
-    ensures number { result ≡ voicingSum v }
+    ensures number { result ≡ voicing_sum v }
     ensures bound { result ≤ 1020 }
 {
     v.pitch as u64 + v.bandpass as u64 + v.fourier as u64 + v.aperiodic as u64
@@ -24,7 +24,7 @@ fn of_voicing(v: Voicing) -> u64
 
 // A set: all its numbers.
 fn of_set(set: ParameterSet) -> u64
-    ensures number { result ≡ setSum set }
+    ensures number { result ≡ set_sum set }
     ensures bound { result ≤ 2550 }
 {
     match set {
@@ -35,7 +35,7 @@ fn of_set(set: ParameterSet) -> u64
 
 // A kind: 0, 1 or 2.
 fn of_kind(kind: Kind) -> u64
-    ensures number { result ≡ kindSum kind }
+    ensures number { result ≡ kind_sum kind }
     ensures bound { result ≤ 2 }
 {
     match kind {
@@ -47,7 +47,7 @@ fn of_kind(kind: Kind) -> u64
 
 // A flag: 1 where it is set.
 fn of_flag(b: bool) -> u64
-    ensures number { result ≡ bitNum b }
+    ensures number { result ≡ bit_num b }
     ensures bound { result ≤ 1 }
 {
     if b { 1 } else { 0 }
@@ -55,7 +55,7 @@ fn of_flag(b: bool) -> u64
 
 // A result: all its numbers.
 fn of_result(res: FrameResult) -> u64
-    ensures number { result ≡ resultSum res }
+    ensures number { result ≡ result_sum res }
     ensures bound { result ≤ 10000000000 }
 {
     let kind = res.kind;
@@ -67,7 +67,7 @@ fn of_result(res: FrameResult) -> u64
 
 // An answer: the numbers of its result, or its refusal.
 pub fn of_answer(answer: ReceiveAnswer) -> u64
-    ensures number { result ≡ answerSum answer }
+    ensures number { result ≡ answer_sum answer }
     ensures bound { result ≤ 10000000000 }
 {
     match answer {

@@ -3,5 +3,5 @@ use Rattle.std.specs.Prelude.{ℕ, List, take, drop}
 use Rattle.set_frames.specs.Sending.{sent}
 
 -- its first 54 bytes are the order, the sets follow
-abbrev pub inputSent : List ℕ → List ℕ
-inputSent input = sent (take 54 input) (drop 54 input)
+abbrev pub input_sent : List ℕ → List ℕ
+input_sent input = sent (take 54 input) (drop 54 input)

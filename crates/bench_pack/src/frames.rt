@@ -1,7 +1,7 @@
 // The frames of an input: an order, and the sets that are packed in it.
 ghost use Rattle.std.specs.Prelude.{◌≡◌, ◌++◌, ◌≤◌, length, drop};
 ghost use Rattle.io.specs.Counts.{IsPrefixLen};
-ghost use Rattle.bench_pack.specs.Inputs.{inputSent};
+ghost use Rattle.bench_pack.specs.Inputs.{input_sent};
 
 use set_frames::FramesAnswer;
 
@@ -9,9 +9,9 @@ use set_frames::FramesAnswer;
 // is no order, ends them.
 pub(crate) fn pack_input(input: &[u8], out: &mut [u8]) -> usize
     requires { (length input.now ≤ 65581) × (length out.old ≡ 41699) }
-    ensures end { result ≡ length (inputSent input.now) }
+    ensures end { result ≡ length (input_sent input.now) }
     ensures size { IsPrefixLen result out.new }
-    ensures written { out.new ≡ inputSent input.now ++ drop result out.old }
+    ensures written { out.new ≡ input_sent input.now ++ drop result out.old }
 {
     if input.len() < 54 {
         return 0;

@@ -1,7 +1,7 @@
 // The sum over all whole frames with confidences, received one after another in one order from a fresh record on.
 ghost use Rattle.std.specs.Prelude.{◌≡◌, suc, ◌+◌, ◌*◌, ◌≤◌, length};
-ghost use Rattle.answer_sums.specs.Sums.{answerSum, eightBytes};
-ghost use Rattle.bench_soft.specs.SoftFrames.{framesIn, recordAfter, answerAt, sumBefore, inputSum};
+ghost use Rattle.answer_sums.specs.Sums.{answer_sum, eight_bytes};
+ghost use Rattle.bench_soft.specs.SoftFrames.{frames_in, record_after, answer_at, sum_before, input_sum};
 
 use answer_sums::{eight_bytes, of_answer};
 use records::Record;
@@ -16,9 +16,9 @@ struct Total {
 // Frame k: the receiver takes it with its confidences.
 fn take_frame(before: Total, order: &[u8], bytes: &[u8], k: usize) -> Total
     requires k_in_bounds { (61 * suc k ≤ length bytes.now) × (before.sum ≤ 10000000000 * k) × (k ≤ 1074) }
-    requires rec_value { before.rec ≡ recordAfter order.now bytes.now k }
-    ensures record { result.rec ≡ recordAfter order.now bytes.now (suc k) }
-    ensures sum { result.sum ≡ before.sum + answerSum (answerAt order.now bytes.now k) }
+    requires rec_value { before.rec ≡ record_after order.now bytes.now k }
+    ensures record { result.rec ≡ record_after order.now bytes.now (suc k) }
+    ensures sum { result.sum ≡ before.sum + answer_sum (answer_at order.now bytes.now k) }
     ensures bound { result.sum ≤ 10000000000 * suc k }
 {
     let rec = before.rec;
@@ -35,7 +35,7 @@ fn take_frame(before: Total, order: &[u8], bytes: &[u8], k: usize) -> Total
 // All of them.
 fn sum_of(order: &[u8], bytes: &[u8]) -> u64
     requires { length bytes.now ≤ 65514 }
-    ensures { result ≡ sumBefore order.now bytes.now (framesIn bytes.now) }
+    ensures { result ≡ sum_before order.now bytes.now (frames_in bytes.now) }
 {
     let mut total = Total {
         rec: records::fresh(),
@@ -50,7 +50,7 @@ fn sum_of(order: &[u8], bytes: &[u8]) -> u64
 // The sum in bytes, of an input: the order, 54 bytes, and then the frames.
 pub(crate) fn sum_bytes(input: &[u8]) -> [u8; 8]
     requires { length input.now ≤ 65568 }
-    ensures { result ≡ eightBytes (inputSum input.now) }
+    ensures { result ≡ eight_bytes (input_sum input.now) }
 {
     if input.len() < 54 {
         return eight_bytes(0);

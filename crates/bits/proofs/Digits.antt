@@ -9,40 +9,40 @@ use native.Mathlib.Omega.{arith}
 use lib.Dec.{eqb, lit<}
 use lib.ListN.{length, get_or, take, drop}
 use lib.Pow.{pow_pos, mod-pow-add, shr-shr}
-use Rattle.bits.specs.Bits.{bitNum, value, bit, bits}
-use Rattle.bits.proofs.Value.{value-lt-at, value_inj}
+use Rattle.bits.specs.Bits.{bit_num, value, bit, bits}
+use Rattle.bits.proofs.Value.{value_lt_at, value_inj}
 
 -- how many bits a number is cut into
-pub bits-length : (k n : ℕ) → length (bits k n) ≡ k
-bits-length zero n = refl
-bits-length (suc k) n = ap suc (bits-length k n)
+pub bits_length : (k n : ℕ) → length (bits k n) ≡ k
+bits_length zero n = refl
+bits_length (suc k) n = ap suc (bits_length k n)
 
 -- a bit's number is read back
-bit-num : (n : ℕ) → bitNum (eqb (n % 2) 1) ≡ n % 2
-bit-num n = go (n % 2) (mod-lt n (lit< tt))
+bit_num_lem : (n : ℕ) → bit_num (eqb (n % 2) 1) ≡ n % 2
+bit_num_lem n = go (n % 2) (mod-lt n (lit< tt))
   where
-    go : (m : ℕ) → m < 2 → bitNum (eqb m 1) ≡ m
+    go : (m : ℕ) → m < 2 → bit_num (eqb m 1) ≡ m
     go zero h = refl
     go (suc zero) h = refl
     go (suc (suc m)) h = absurd (omega arith)
 
 -- the bits of a number stand for its remainder
-pub value-bits-mod : (k n : ℕ) → value (bits k n) ≡ n % 2 ^ k
-value-bits-mod zero n = omega arith
-value-bits-mod (suc k) n =
+pub value_bits_mod : (k n : ℕ) → value (bits k n) ≡ n % 2 ^ k
+value_bits_mod zero n = omega arith
+value_bits_mod (suc k) n =
     let e : suc k ≡ 1 + k = omega arith in
-    ap₂ (λ (x y : ℕ). x * 2 ^ length (bits k n) + y) (bit-num (n / 2 ^ k)) (value-bits-mod k n)
-    ∙ ap (λ (m : ℕ). n / 2 ^ k % 2 * 2 ^ m + n % 2 ^ k) (bits-length k n)
+    ap₂ (λ (x y : ℕ). x * 2 ^ length (bits k n) + y) (bit_num_lem (n / 2 ^ k)) (value_bits_mod k n)
+    ∙ ap (λ (m : ℕ). n / 2 ^ k % 2 * 2 ^ m + n % 2 ^ k) (bits_length k n)
     ∙ sym (mod-pow-add n 1 k)
     ∙ ap (λ (m : ℕ). n % 2 ^ m) (sym e)
 
 -- a number of k bits comes back from its bits
-pub value-bits : (k n : ℕ) → n < 2 ^ k → value (bits k n) ≡ n
-value-bits k n h = value-bits-mod k n ∙ mod-eq_of_lt h
+pub value_bits : (k n : ℕ) → n < 2 ^ k → value (bits k n) ≡ n
+value_bits k n h = value_bits_mod k n ∙ mod-eq_of_lt h
 
 -- bits come back from their number
-pub bits-value : (n : ℕ) (l : List Bool) → length l ≡ n → bits n (value l) ≡ l
-bits-value n l e = value_inj (bits n (value l)) l (bits-length n (value l) ∙ sym e) (value-bits n (value l) (value-lt-at n l e))
+pub bits_value : (n : ℕ) (l : List Bool) → length l ≡ n → bits n (value l) ≡ l
+bits_value n l e = value_inj (bits n (value l)) l (bits_length n (value l) ∙ sym e) (value_bits n (value l) (value_lt_at n l e))
 
 -- entry j of a number's n bits is its bit n - 1 - j
 pub bits_at : (n j w : ℕ) → j < n → get_or (bits n w) j false ≡ bit (n - suc j) w
@@ -51,15 +51,15 @@ bits_at (suc n) zero w h = ap (λ (k : ℕ). bit k w) (omega arith)
 bits_at (suc n) (suc j) w h = bits_at n j w (le_of_suc-le-suc h) ∙ ap (λ (k : ℕ). bit k w) (omega arith)
 
 -- a bit of a number, as the number that a shift and a remainder give
-pub bit_is : (k w : ℕ) → bitNum (bit k w) ≡ w / 2 ^ k % 2
-bit_is k w = bit-num (w / 2 ^ k)
+pub bit_is : (k w : ℕ) → bit_num (bit k w) ≡ w / 2 ^ k % 2
+bit_is k w = bit_num_lem (w / 2 ^ k)
 
 -- the first a of a number's bits are those of its quotient
-pub take-bits : (a b n : ℕ) → take a (bits (a + b) n) ≡ bits a (n / 2 ^ b)
-take-bits zero b n = refl
-take-bits (suc a) b n =
+pub take_bits : (a b n : ℕ) → take a (bits (a + b) n) ≡ bits a (n / 2 ^ b)
+take_bits zero b n = refl
+take_bits (suc a) b n =
     ap (λ (k : ℕ). take (suc a) (bits k n)) (suc-add a b)
-    ∙ ap₂ (λ (x : ℕ) (xs : List Bool). eqb (x % 2) 1 ∷ xs) (ap (λ (k : ℕ). n / 2 ^ k) (add_comm a b) ∙ sym (shr-shr n b a)) (take-bits a b n)
+    ∙ ap₂ (λ (x : ℕ) (xs : List Bool). eqb (x % 2) 1 ∷ xs) (ap (λ (k : ℕ). n / 2 ^ k) (add_comm a b) ∙ sym (shr-shr n b a)) (take_bits a b n)
 
 -- the others are those of the number itself
 pub drop_bits : (a b n : ℕ) → drop a (bits (a + b) n) ≡ bits b n
@@ -67,5 +67,5 @@ drop_bits zero b n = ap (λ (k : ℕ). bits k n) (zero-add b)
 drop_bits (suc a) b n = ap (λ (k : ℕ). drop (suc a) (bits k n)) (suc-add a b) ∙ drop_bits a b n
 
 -- they do not see what stands above them
-pub bits-mod : (k n : ℕ) → bits k (n % 2 ^ k) ≡ bits k n
-bits-mod k n = value_inj _ _ (bits-length k _ ∙ sym (bits-length k n)) (value-bits k (n % 2 ^ k) (mod-lt n (pow_pos k)) ∙ sym (value-bits-mod k n))
+pub bits_mod : (k n : ℕ) → bits k (n % 2 ^ k) ≡ bits k n
+bits_mod k n = value_inj _ _ (bits_length k _ ∙ sym (bits_length k n)) (value_bits k (n % 2 ^ k) (mod-lt n (pow_pos k)) ∙ sym (value_bits_mod k n))

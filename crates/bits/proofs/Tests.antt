@@ -35,39 +35,39 @@ chain_first a [] t = t
 chain_first a (b ∷ bs) t = and_left a b (chain_first (a && b) bs t)
 
 -- each test of a chain that passes has passed
-pub chain-at : (a : Bool) (bs : List Bool) → T (chain a bs) → (k : ℕ) → T (get_or (a ∷ bs) k true)
-chain-at a bs t zero = chain_first a bs t
-chain-at a [] t (suc k) = tt
-chain-at true (b ∷ bs) t (suc k) = chain-at b bs t k
-chain-at false (b ∷ bs) t (suc k) = absurd (chain_first false bs t)
+pub chain_at : (a : Bool) (bs : List Bool) → T (chain a bs) → (k : ℕ) → T (get_or (a ∷ bs) k true)
+chain_at a bs t zero = chain_first a bs t
+chain_at a [] t (suc k) = tt
+chain_at true (b ∷ bs) t (suc k) = chain_at b bs t k
+chain_at false (b ∷ bs) t (suc k) = absurd (chain_first false bs t)
 
 -- a test passed is true
 pub T_true : (b : Bool) → b ≡ true → T b
 T_true b e = subst T (sym e) tt
 
 -- and the other way round
-pub true-T : (b : Bool) → T b → b ≡ true
-true-T true t = refl
-true-T false t = absurd t
+pub true_T : (b : Bool) → T b → b ≡ true
+true_T true t = refl
+true_T false t = absurd t
 
 -- the second test is asked only where the first passes
 abbrev pub implies : Bool → Bool → Bool
 implies true b = b
 implies false b = true
 
-pub implies-at : (a b : Bool) → T (implies a b) → a ≡ true → T b
-implies-at true b t h = t
-implies-at false b t h = absurd (false≢true h)
+pub implies_at : (a b : Bool) → T (implies a b) → a ≡ true → T b
+implies_at true b t h = t
+implies_at false b t h = absurd (false≢true h)
 
 -- a test that passes at every number below n passes at each
-pub every-at : (n : ℕ) (f : ℕ → Bool) → T (every n f) → (k : ℕ) → k < n → T (f k)
-every-at zero f t k h = absurd (not-suc-le-zero h)
-every-at (suc n) f t k h = go (every-at n f (and_right (f n) (every n f) t) k) (ℕ_discrete k n)
+pub every_at : (n : ℕ) (f : ℕ → Bool) → T (every n f) → (k : ℕ) → k < n → T (f k)
+every_at zero f t k h = absurd (not-suc-le-zero h)
+every_at (suc n) f t k h = go (every_at n f (and_right (f n) (every n f) t) k) (ℕ_discrete k n)
   where
     go : (k < n → T (f k)) → Dec (k ≡ n) → T (f k)
     go rest (yes e) = subst (λ (m : ℕ). T (f m)) (sym e) (and_left (f n) (every n f) t)
     go rest (no d) = rest (omega arith)
 
 -- an equation at every number below n
-pub equal-at : (n : ℕ) (f g : ℕ → ℕ) → T (every n (λ k. eqb (f k) (g k))) → (k : ℕ) → k < n → f k ≡ g k
-equal-at n f g t k h = eqb→eq (f k) (g k) (every-at n (λ k. eqb (f k) (g k)) t k h)
+pub equal_at : (n : ℕ) (f g : ℕ → ℕ) → T (every n (λ k. eqb (f k) (g k))) → (k : ℕ) → k < n → f k ≡ g k
+equal_at n f g t k h = eqb→eq (f k) (g k) (every_at n (λ k. eqb (f k) (g k)) t k h)

@@ -2,5 +2,5 @@
 use Rattle.std.specs.Prelude.{ℕ, ◌+◌}
 
 -- the byte of a digit: 48 is `0`
-abbrev pub digitByte : ℕ → ℕ
-digitByte d = 48 + d
+abbrev pub digit_byte : ℕ → ℕ
+digit_byte d = 48 + d

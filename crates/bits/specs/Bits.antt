@@ -16,24 +16,24 @@ abbrev pub ◌⊕◌ : List Bool → List Bool → List Bool
 (b ∷ bs) ⊕ (e ∷ es) = (b ⊻ e) ∷ (bs ⊕ es)
 
 -- a bit as a number
-abbrev pub bitNum : Bool → ℕ
-bitNum true = 1
-bitNum false = 0
+abbrev pub bit_num : Bool → ℕ
+bit_num true = 1
+bit_num false = 0
 
 -- one more where the bit is set
-abbrev pub addOne : Bool → ℕ → ℕ
-addOne true n = suc n
-addOne false n = n
+abbrev pub add_one : Bool → ℕ → ℕ
+add_one true n = suc n
+add_one false n = n
 
 -- how many bits are set
 abbrev pub ones : List Bool → ℕ
 ones [] = zero
-ones (b ∷ bs) = addOne b (ones bs)
+ones (b ∷ bs) = add_one b (ones bs)
 
 -- the number that bits stand for, most significant first
 abbrev pub value : List Bool → ℕ
 value [] = 0
-value (b ∷ bs) = bitNum b * 2 ^ length bs + value bs
+value (b ∷ bs) = bit_num b * 2 ^ length bs + value bs
 
 -- bit k of a number; bit 0 is the least significant
 abbrev pub bit : ℕ → ℕ → Bool

@@ -18,9 +18,9 @@ Successive P (x ∷ []) = Unit
 Successive P (x ∷ y ∷ ys) = P x y × Successive P (y ∷ ys)
 
 -- what a lent output holds afterwards, by the number of the refusal: n new values in front and all past them kept; after a refusal all kept
-abbrev pub writtenUnless : {A : Type 0} → ℕ → ℕ → List A → List A → List A
-writtenUnless zero n front out = front ++ drop n out
-writtenUnless (suc r) n front out = out
+abbrev pub written_unless : {A : Type 0} → ℕ → ℕ → List A → List A → List A
+written_unless zero n front out = front ++ drop n out
+written_unless (suc r) n front out = out
 
 -- what a read of an input leaves in a lent buffer: its first n bytes are the whole input, or as much of it as the buffer takes
 abbrev pub ReadFrom : List ℕ → ℕ → List ℕ → Type 0

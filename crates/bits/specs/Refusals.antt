@@ -6,6 +6,6 @@ abbrev pub Table : Type 0
 Table = List (Bool × ℕ)
 
 -- the number of the first condition that holds, 0 where none does
-abbrev pub firstRefusal : Table → ℕ
-firstRefusal [] = 0
-firstRefusal (row ∷ rows) = cond row.0 row.1 (firstRefusal rows)
+abbrev pub first_refusal : Table → ℕ
+first_refusal [] = 0
+first_refusal (row ∷ rows) = cond row.0 row.1 (first_refusal rows)

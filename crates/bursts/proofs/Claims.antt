@@ -7,65 +7,65 @@ use Prim.Native.Nat.{ℕ, suc, ◌-◌, ◌≤◌, ◌<◌}
 use native.Mathlib.Omega.{arith}
 use lib.Dec.{T, leb, lit≤}
 use borrow.Author.Tests.{leb-true, leb-false}
-use Rattle.bits.proofs.Tests.{true-T, every-at}
-use Rattle.order.specs.Order.{Order, placeOf, order_by, defaultOrder}
-use Rattle.order.proofs.DefaultOrder.{default-order}
-use Rattle.bursts.specs.Flips.{logicalFlips}
-use Rattle.bursts.specs.Width.{burst, hitsOnce, neverTwice, burstWidth}
-use Rattle.bursts.specs.Distances.{apartAt}
+use Rattle.bits.proofs.Tests.{true_T, every_at}
+use Rattle.order.specs.Order.{Order, place_of, order_by, default_order}
+use Rattle.order.proofs.DefaultOrder.{default_order_lem}
+use Rattle.bursts.specs.Flips.{logical_flips}
+use Rattle.bursts.specs.Width.{burst, hits_once, never_twice, burst_width}
+use Rattle.bursts.specs.Distances.{apart_at}
 use Rattle.bursts.specs.Claims.{HitsTwice, Widths}
-use Rattle.bursts.proofs.Tests.{every-fails, largest-above, largest-passes}
-use Rattle.bursts.proofs.Flips.{all-within}
-use Rattle.bursts.proofs.Windows.{hits-once, within-correctable}
-use Rattle.bursts.proofs.Distances.{apart-never, width_is}
-use Rattle.bursts.proofs.WordA.{never-twice-most}
+use Rattle.bursts.proofs.Tests.{every_fails, largest_above, largest_passes}
+use Rattle.bursts.proofs.Flips.{all_within}
+use Rattle.bursts.proofs.Windows.{hits_once_lem, within_correctable}
+use Rattle.bursts.proofs.Distances.{apart_never, width_is}
+use Rattle.bursts.proofs.WordA.{never_twice_most}
 
 -- some burst of a larger length hits a part twice
-beyond : (ord : List ℕ) (n : ℕ) → burstWidth ord < n → n ≤ 54 → HitsTwice ord n
-unfolding burstWidth
+beyond : (ord : List ℕ) (n : ℕ) → burst_width ord < n → n ≤ 54 → HitsTwice ord n
+unfolding burst_width
 beyond ord n h l =
-    let w = every-fails 54 (λ start. hitsOnce (logicalFlips ord (burst start n))) (largest-above (neverTwice ord) 54 n h l) in
+    let w = every_fails 54 (λ start. hits_once (logical_flips ord (burst start n))) (largest_above (never_twice ord) 54 n h l) in
     let fl = burst w.at n in
     record {
       flips = fl;
-      within = all-within n w.at;
-      twice = λ c. false≢true (sym w.fails ∙ true-T (hitsOnce (logicalFlips ord fl)) (hits-once (logicalFlips ord fl) c));
+      within = all_within n w.at;
+      twice = λ c. false≢true (sym w.fails ∙ true_T (hits_once (logical_flips ord fl)) (hits_once_lem (logical_flips ord fl) c));
     }
 
 module _ (ord : List ℕ) (o : Order ord) where
   -- a burst of one place hits no part twice
-  least : 1 ≤ burstWidth ord
-  unfolding burstWidth
-  least = go (leb 1 (burstWidth ord)) refl
+  least : 1 ≤ burst_width ord
+  unfolding burst_width
+  least = go (leb 1 (burst_width ord)) refl
     where
-      go : (b : Bool) → leb 1 (burstWidth ord) ≡ b → 1 ≤ burstWidth ord
-      go true e = leb-true 1 (burstWidth ord) e
+      go : (b : Bool) → leb 1 (burst_width ord) ≡ b → 1 ≤ burst_width ord
+      go true e = leb-true 1 (burst_width ord) e
       go false e =
-          let fails = largest-above (neverTwice ord) 54 1 (leb-false 1 (burstWidth ord) e) (lit≤ tt) in
-          absurd (false≢true (sym fails ∙ true-T (neverTwice ord 1) (apart-never ord o 1 (λ d a b. absurd (omega arith)))))
+          let fails = largest_above (never_twice ord) 54 1 (leb-false 1 (burst_width ord) e) (lit≤ tt) in
+          absurd (false≢true (sym fails ∙ true_T (never_twice ord 1) (apart_never ord o 1 (λ d a b. absurd (omega arith)))))
 
   -- bursts of the width never do
-  passes : T (neverTwice ord (burstWidth ord))
-  unfolding burstWidth
-  passes = largest-passes (neverTwice ord) 54 least
+  passes : T (never_twice ord (burst_width ord))
+  unfolding burst_width
+  passes = largest_passes (never_twice ord) 54 least
 
 -- the default order
-default-seven : burstWidth defaultOrder ≡ 7
-unfolding placeOf order_by defaultOrder
-default-seven = width_is defaultOrder default-order 7 (lit≤ tt) (lit≤ tt) below (λ h. refl)
+default_seven : burst_width default_order ≡ 7
+unfolding place_of order_by default_order
+default_seven = width_is default_order default_order_lem 7 (lit≤ tt) (lit≤ tt) below (λ h. refl)
   where
-    below : (d : ℕ) → 1 ≤ d → d < 7 → T (apartAt defaultOrder d)
+    below : (d : ℕ) → 1 ≤ d → d < 7 → T (apart_at default_order d)
     below d a b =
         let e : suc (d - 1) ≡ d = omega arith in
-        subst (λ (k : ℕ). T (apartAt defaultOrder k)) e (every-at 6 (λ k. apartAt defaultOrder (suc k)) tt (d - 1) (omega arith))
+        subst (λ (k : ℕ). T (apart_at default_order k)) e (every_at 6 (λ k. apart_at default_order (suc k)) tt (d - 1) (omega arith))
 
 pub widths : Widths
 widths = record {
-  every-order = λ ord o. record {
-    inside = within-correctable ord o (burstWidth ord) (passes ord o);
+  every_order = λ ord o. record {
+    inside = within_correctable ord o (burst_width ord) (passes ord o);
     beyond = beyond ord;
     least = least ord o;
-    most = never-twice-most ord o (burstWidth ord) (passes ord o);
+    most = never_twice_most ord o (burst_width ord) (passes ord o);
   };
-  default-width = default-seven;
+  default_width = default_seven;
 }

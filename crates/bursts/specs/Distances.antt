@@ -3,17 +3,17 @@ use Rattle.std.specs.Prelude.{ℕ, ◌+◌, ◌-◌, Bool, not, cond, ◌&&◌, 
 use Rattle.bits.specs.Lists.{every}
 
 -- the part of a frame that a logical bit belongs to: 0 to 3 the words A to D, 4 the pitch code, 5 any other
-abbrev pub partOf : ℕ → ℕ
-partOf j = cond (ltb j 8) 0 (cond (ltb j 14) 1 (cond (ltb j 21) 2 (cond (ltb j 28) 3 (cond (ltb j 35) 4 5))))
+abbrev pub part_of : ℕ → ℕ
+part_of j = cond (ltb j 8) 0 (cond (ltb j 14) 1 (cond (ltb j 21) 2 (cond (ltb j 28) 3 (cond (ltb j 35) 4 5))))
 
 -- whether two logical bits are of the same word, or both of the pitch code
-abbrev pub samePart : ℕ → ℕ → Bool
-samePart i j = ltb (partOf i) 5 && eqb (partOf i) (partOf j)
+abbrev pub same_part : ℕ → ℕ → Bool
+same_part i j = ltb (part_of i) 5 && eqb (part_of i) (part_of j)
 
 -- whether the bits at place t and at a distance behind it are not of one part
 abbrev pub differ : List ℕ → ℕ → ℕ → Bool
-differ ord distance t = not (samePart (get_or ord t 0) (get_or ord (t + distance) 0))
+differ ord distance t = not (same_part (get_or ord t 0) (get_or ord (t + distance) 0))
 
 -- whether no two places at a distance hold bits of one part
-abbrev pub apartAt : List ℕ → ℕ → Bool
-apartAt ord distance = every (54 - distance) (differ ord distance)
+abbrev pub apart_at : List ℕ → ℕ → Bool
+apart_at ord distance = every (54 - distance) (differ ord distance)

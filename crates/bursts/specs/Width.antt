@@ -2,10 +2,10 @@
 use Rattle.std.specs.Prelude.{ℕ, zero, suc, ◌+◌, Bool, cond, ◌&&◌, List, leb, ltb}
 use Rattle.bits.specs.Bits.{ones}
 use Rattle.bits.specs.Lists.{every}
-use Rattle.bits.specs.Refusals.{firstRefusal}
-use Rattle.order.specs.Order.{orderTable}
-use Rattle.order.specs.Fields.{wordA, wordB, wordC, wordD, pitchBits}
-use Rattle.bursts.specs.Flips.{logicalFlips}
+use Rattle.bits.specs.Refusals.{first_refusal}
+use Rattle.order.specs.Order.{order_table}
+use Rattle.order.specs.Fields.{word_a, word_b, word_c, word_d, pitch_bits}
+use Rattle.bursts.specs.Flips.{logical_flips}
 use Rattle.bursts.specs.declared.WidthAnswer.{WidthAnswer}
 use Rattle.bursts.specs.declared.WidthAnswer.TheVariants.{Width, Refused}
 
@@ -14,12 +14,12 @@ abbrev pub burst : ℕ → ℕ → ℕ → Bool
 burst start n t = leb start t && ltb t (start + n)
 
 -- whether flips of logical bits hit the pitch code and each word at most once
-abbrev pub hitsOnce : (ℕ → Bool) → Bool
-hitsOnce fl = leb (ones (wordA fl)) 1 && leb (ones (wordB fl)) 1 && leb (ones (wordC fl)) 1 && leb (ones (wordD fl)) 1 && leb (ones (pitchBits fl)) 1
+abbrev pub hits_once : (ℕ → Bool) → Bool
+hits_once fl = leb (ones (word_a fl)) 1 && leb (ones (word_b fl)) 1 && leb (ones (word_c fl)) 1 && leb (ones (word_d fl)) 1 && leb (ones (pitch_bits fl)) 1
 
 -- whether flips inside n neighbouring places, wherever these start, never hit any of them twice: not even where all n places are flipped
-abbrev pub neverTwice : List ℕ → ℕ → Bool
-neverTwice ord n = every 54 (λ start. hitsOnce (logicalFlips ord (burst start n)))
+abbrev pub never_twice : List ℕ → ℕ → Bool
+never_twice ord n = every 54 (λ start. hits_once (logical_flips ord (burst start n)))
 
 -- the largest number up to m that passes a test, or 0
 abbrev pub largest : ℕ → (ℕ → Bool) → ℕ
@@ -27,13 +27,13 @@ largest zero f = zero
 largest (suc m) f = cond (f (suc m)) (suc m) (largest m f)
 
 -- the burst width: the largest length up to 54 of which this holds
-unfoldable pub burstWidth : List ℕ → ℕ
-burstWidth ord = largest 54 (neverTwice ord)
+unfoldable pub burst_width : List ℕ → ℕ
+burst_width ord = largest 54 (never_twice ord)
 
 -- the answer: the width; a refusal is its number
-abbrev pub widthUnless : ℕ → List ℕ → WidthAnswer
-widthUnless zero ord = Width (burstWidth ord)
-widthUnless (suc n) ord = Refused (suc n)
+abbrev pub width_unless : ℕ → List ℕ → WidthAnswer
+width_unless zero ord = Width (burst_width ord)
+width_unless (suc n) ord = Refused (suc n)
 
-unfoldable pub widthAnswer : List ℕ → WidthAnswer
-widthAnswer ord = widthUnless (firstRefusal (orderTable ord)) ord
+unfoldable pub width_answer : List ℕ → WidthAnswer
+width_answer ord = width_unless (first_refusal (order_table ord)) ord

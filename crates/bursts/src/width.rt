@@ -1,15 +1,15 @@
 // The burst width of an order: the smallest distance between two places of the pitch code or of one word.
 ghost use Rattle.std.specs.Prelude.{◌≡◌, ◌<◌, T, length};
 ghost use Rattle.order.specs.Order.{is_order};
-ghost use Rattle.bursts.specs.Width.{burstWidth, widthAnswer};
-ghost use Rattle.bursts.specs.Distances.{partOf, samePart, apartAt};
+ghost use Rattle.bursts.specs.Width.{burst_width, width_answer};
+ghost use Rattle.bursts.specs.Distances.{part_of, same_part, apart_at};
 
 use crate::WidthAnswer;
 use order::is_order;
 
 // The part of a frame that a logical bit belongs to: 0 to 3 the words A to D, 4 the pitch code, 5 any other.
 fn part_of(bit: u8) -> u8
-    ensures { result ≡ partOf bit }
+    ensures { result ≡ part_of bit }
 {
     if bit < 8 {
         return 0;
@@ -28,7 +28,7 @@ fn part_of(bit: u8) -> u8
 
 // Whether two logical bits are of the same word, or both of the pitch code.
 fn same_part(a: u8, b: u8) -> bool
-    ensures { result ≡ samePart a b }
+    ensures { result ≡ same_part a b }
 {
     let part = part_of(a);
     part < 5 && part == part_of(b)
@@ -37,7 +37,7 @@ fn same_part(a: u8, b: u8) -> bool
 // Whether no two places at a distance hold bits of one part.
 fn apart_at(order: &[u8], distance: usize) -> bool
     requires { (length order.now ≡ 54) × (distance < 54) }
-    ensures { result ≡ apartAt order.now distance }
+    ensures { result ≡ apart_at order.now distance }
 {
     for t in 0..54 - distance {
         if same_part(order[t], order[t + distance]) {
@@ -50,7 +50,7 @@ fn apart_at(order: &[u8], distance: usize) -> bool
 // The smallest distance of two places that do. No order is without one.
 fn smallest_distance(order: &[u8]) -> u8
     requires { T (is_order order.now) }
-    ensures { result ≡ burstWidth order.now }
+    ensures { result ≡ burst_width order.now }
 {
     for distance in 1..54 {
         if !apart_at(order, distance) {
@@ -62,7 +62,7 @@ fn smallest_distance(order: &[u8]) -> u8
 
 // The burst width of an order. Refused: 10, a list that is no order.
 pub fn burst_width(order: &[u8]) -> WidthAnswer
-    ensures { result ≡ widthAnswer order.now }
+    ensures { result ≡ width_answer order.now }
 {
     if is_order(order) {
         return WidthAnswer::Width(smallest_distance(order));

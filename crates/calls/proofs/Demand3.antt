@@ -4,56 +4,56 @@ use mathlib.Core.Path.{◌≡◌, refl}
 use mathlib.Core.Bool.{Bool}
 use mathlib.Core.List.{List}
 use Prim.Native.Nat.{ℕ}
-use Rattle.frame.specs.Packing.{freshSync}
+use Rattle.frame.specs.Packing.{fresh_sync}
 use Rattle.records.specs.Records.{fresh}
 use Rattle.records.specs.declared.Record.{Record}
-use Rattle.records.proofs.Validity.{fresh-valid}
-use Rattle.calls.specs.Model.{PackKind, packModel, ReceiveKind, receiveModel}
-use Rattle.calls.specs.Calls.{PackCall, packOrder, packCallRefusal, packLeft, packOutcome, lentAfter, PackStep}
-use Rattle.calls.specs.Calls.{ReceiveCall, receiveOrder, receiveCallRefusal, receiveOutcome, ReceiveStep, unrefused}
+use Rattle.records.proofs.Validity.{fresh_valid}
+use Rattle.calls.specs.Model.{PackKind, pack_model, ReceiveKind, receive_model}
+use Rattle.calls.specs.Calls.{PackCall, pack_order, pack_call_refusal, pack_left, pack_outcome, lent_after, PackStep}
+use Rattle.calls.specs.Calls.{ReceiveCall, receive_order, receive_call_refusal, receive_outcome, ReceiveStep, unrefused}
 use Rattle.calls.specs.Claim.{Session, Claim}
-use Rattle.calls.proofs.Runs.{run-outcomes, run-weaker, run-every, run-with, run-unrefused}
-use Rattle.calls.proofs.Steps.{pack-leaves, receive-leaves}
-use Rattle.calls.proofs.Rows.{Aligned, calls-aligned}
-use Rattle.calls.proofs.Chains.{chain-flips, chain-answers, chain-clean}
-use Rattle.calls.proofs.Claims.{chain-frames, chain-pairs}
+use Rattle.calls.proofs.Runs.{run_outcomes, run_weaker, run_every, run_with, run_unrefused}
+use Rattle.calls.proofs.Steps.{pack_leaves, receive_leaves}
+use Rattle.calls.proofs.Rows.{Aligned, calls_aligned}
+use Rattle.calls.proofs.Chains.{chain_flips, chain_answers, chain_clean}
+use Rattle.calls.proofs.Claims.{chain_frames, chain_pairs}
 
 module _ (ord : List ℕ) {P : PackKind} {R : ReceiveKind} (ps : List (PackCall P)) (flips : ℕ → ℕ → Bool) (rs : List (ReceiveCall R)) (start : Record)
     (s : Session PackStep ReceiveStep ord ps flips rs start) where
   -- the calls that are not refused, in rows
-  frames : Aligned ord start fresh flips (unrefused packCallRefusal ps) (unrefused receiveCallRefusal rs)
+  frames : Aligned ord start fresh flips (unrefused pack_call_refusal ps) (unrefused receive_call_refusal rs)
   frames =
-      let packs = run-unrefused (λ c. c.given) packLeft PackStep packCallRefusal (λ c n k. pack-leaves c k n) freshSync ps s.packing in
-      let takes = run-unrefused (λ c. c.given) (λ c. c.left) ReceiveStep receiveCallRefusal (λ c n k. receive-leaves c k n) start rs s.receiving in
-      calls-aligned ord freshSync start fresh flips (unrefused packCallRefusal ps) (unrefused receiveCallRefusal rs)
-      (run-with (λ c. c.given) packLeft (λ c. PackStep c × (packCallRefusal c ≡ 0)) (λ c. packOrder c ≡ ord) freshSync (unrefused packCallRefusal ps) packs
-      s.packed-same)
-      (run-with (λ c. c.given) (λ c. c.left) (λ c. ReceiveStep c × (receiveCallRefusal c ≡ 0)) (λ c. receiveOrder c ≡ ord) start
-      (unrefused receiveCallRefusal rs) takes s.received-same)
+      let packs = run_unrefused (λ c. c.given) pack_left PackStep pack_call_refusal (λ c n k. pack_leaves c k n) fresh_sync ps s.packing in
+      let takes = run_unrefused (λ c. c.given) (λ c. c.left) ReceiveStep receive_call_refusal (λ c n k. receive_leaves c k n) start rs s.receiving in
+      calls_aligned ord fresh_sync start fresh flips (unrefused pack_call_refusal ps) (unrefused receive_call_refusal rs)
+      (run_with (λ c. c.given) pack_left (λ c. PackStep c × (pack_call_refusal c ≡ 0)) (λ c. pack_order c ≡ ord) fresh_sync (unrefused pack_call_refusal ps) packs
+      s.packed_same)
+      (run_with (λ c. c.given) (λ c. c.left) (λ c. ReceiveStep c × (receive_call_refusal c ≡ 0)) (λ c. receive_order c ≡ ord) start
+      (unrefused receive_call_refusal rs) takes s.received_same)
       s.delivered
 
   -- calls that do what the model does
-  pub steps-claim : Claim ord ps flips rs start
-  steps-claim =
+  pub steps_claim : Claim ord ps flips rs start
+  steps_claim =
       let f = frames in
       record {
         packed =
-            run-outcomes (λ c. c.given) packLeft PackStep (λ c. c.arguments) (packOutcome {P = P}) (packModel P) (λ c k. k.outcome) (λ c. refl)
-            freshSync ps s.packing;
+            run_outcomes (λ c. c.given) pack_left PackStep (λ c. c.arguments) (pack_outcome {P = P}) (pack_model P) (λ c k. k.outcome) (λ c. refl)
+            fresh_sync ps s.packing;
         lent =
-            run-every (λ c. c.given) packLeft PackStep (λ c. c.output ≡ lentAfter (packOutcome c).answer (P.lent c.arguments)) (λ c k. k.output)
-            freshSync ps s.packing;
+            run_every (λ c. c.given) pack_left PackStep (λ c. c.output ≡ lent_after (pack_outcome c).answer (P.lent c.arguments)) (λ c k. k.output)
+            fresh_sync ps s.packing;
         received =
-            run-outcomes (λ c. c.given) (λ c. c.left) ReceiveStep (λ c. c.arguments) (receiveOutcome {R = R}) (receiveModel R) (λ c k. k) (λ c. refl)
+            run_outcomes (λ c. c.given) (λ c. c.left) ReceiveStep (λ c. c.arguments) (receive_outcome {R = R}) (receive_model R) (λ c k. k) (λ c. refl)
             start rs s.receiving;
         rows = f.rows;
         packings = f.packings;
         receivings = f.receivings;
-        flipped = chain-flips ord start fresh flips f.rows f.chain;
-        answered = chain-answers ord start fresh flips f.rows f.chain;
-        clean = chain-clean ord start fresh flips f.rows f.chain fresh-valid;
-        frames = chain-frames ord start fresh flips f.rows f.chain;
-        pairs = chain-pairs ord start fresh flips f.rows f.chain fresh-valid;
+        flipped = chain_flips ord start fresh flips f.rows f.chain;
+        answered = chain_answers ord start fresh flips f.rows f.chain;
+        clean = chain_clean ord start fresh flips f.rows f.chain fresh_valid;
+        frames = chain_frames ord start fresh flips f.rows f.chain;
+        pairs = chain_pairs ord start fresh flips f.rows f.chain fresh_valid;
       }
 
 -- calls of any kind whose contracts imply the model's step
@@ -61,10 +61,10 @@ module _ {P : PackKind} (Packs : PackCall P → Type 0) (packs : (c : PackCall P
     {R : ReceiveKind} (Receives : ReceiveCall R → Type 0) (receives : (c : ReceiveCall R) → Receives c → ReceiveStep c) where
   pub claim : (ord : List ℕ) (ps : List (PackCall P)) (flips : ℕ → ℕ → Bool) (rs : List (ReceiveCall R)) (start : Record)
       → Session Packs Receives ord ps flips rs start → Claim ord ps flips rs start
-  claim ord ps flips rs start s = steps-claim ord ps flips rs start (record {
-    packing = run-weaker (λ c. c.given) packLeft Packs PackStep packs freshSync ps s.packing;
-    receiving = run-weaker (λ c. c.given) (λ c. c.left) Receives ReceiveStep receives start rs s.receiving;
-    packed-same = s.packed-same;
-    received-same = s.received-same;
+  claim ord ps flips rs start s = steps_claim ord ps flips rs start (record {
+    packing = run_weaker (λ c. c.given) pack_left Packs PackStep packs fresh_sync ps s.packing;
+    receiving = run_weaker (λ c. c.given) (λ c. c.left) Receives ReceiveStep receives start rs s.receiving;
+    packed_same = s.packed_same;
+    received_same = s.received_same;
     delivered = s.delivered;
   })

@@ -4,35 +4,35 @@ use mathlib.Core.Bool.{not}
 use mathlib.Core.List.{[], ◌∷◌}
 use lib.ListN.{length}
 use borrow.Author.Tests.{le-ltb}
-use Rattle.bits.specs.Refusals.{firstRefusal}
-use Rattle.bits.proofs.Tests.{true-T}
+use Rattle.bits.specs.Refusals.{first_refusal}
+use Rattle.bits.proofs.Tests.{true_T}
 use Rattle.order.specs.Order.{is_order}
-use Rattle.order.proofs.Orders.{is-order}
+use Rattle.order.proofs.Orders.{is_order_lem}
 use Rattle.sets.specs.Sets.{sendable}
-use Rattle.frame.specs.Packing.{packAnswer, packWrites}
+use Rattle.frame.specs.Packing.{pack_answer, pack_writes}
 use Rattle.calls.specs.Calls.{PackStep, ReceiveStep}
 use Rattle.calls.specs.CodeCalls.{CodePacks, CodeReceivesBy, CodeReceives}
 use Rattle.calls.specs.Demands.{Demand2, Demand3, SessionsHad, OrdersPack}
-use Rattle.calls.proofs.Demand2.{defined-return, calls-return}
+use Rattle.calls.proofs.Demand2.{defined_return, calls_return}
 use Rattle.calls.proofs.Demand3.{claim}
-use Rattle.calls.proofs.PackingCalls.{code-packs, pack-had}
-use Rattle.calls.proofs.ReceivingCalls.{code-receives, receive-had}
+use Rattle.calls.proofs.PackingCalls.{code_packs, pack_had}
+use Rattle.calls.proofs.ReceivingCalls.{code_receives, receive_had}
 use Rattle.calls.proofs.Sessions.{sessions}
 
-pub demand-2 : Demand2
-demand-2 = record {
-  code = calls-return CodePacks code-packs CodeReceives code-receives;
-  defined = defined-return;
-  calls = calls-return PackStep (λ c k. k) ReceiveStep (λ d l. l);
+pub demand_2 : Demand2
+demand_2 = record {
+  code = calls_return CodePacks code_packs CodeReceives code_receives;
+  defined = defined_return;
+  calls = calls_return PackStep (λ c k. k) ReceiveStep (λ d l. l);
 }
 
-pub demand-3 : Demand3
-demand-3 = claim CodePacks code-packs CodeReceives code-receives
+pub demand_3 : Demand3
+demand_3 = claim CodePacks code_packs CodeReceives code_receives
 
-pub sessions-had : SessionsHad
-unfolding packAnswer packWrites
-sessions-had = sessions CodePacks code-packs pack-had CodeReceivesBy receive-had
+pub sessions_had : SessionsHad
+unfolding pack_answer pack_writes
+sessions_had = sessions CodePacks code_packs pack_had CodeReceivesBy receive_had
 
-pub orders-pack : OrdersPack
-orders-pack ord o set t lent h i =
-    firstRefusal ((le-ltb (length lent) 7 h i, 1) ∷ (not (true-T (is_order ord) (is-order ord o) i), 10) ∷ (not (true-T (sendable set) t i), 5) ∷ [])
+pub orders_pack : OrdersPack
+orders_pack ord o set t lent h i =
+    first_refusal ((le-ltb (length lent) 7 h i, 1) ∷ (not (true_T (is_order ord) (is_order_lem ord o) i), 10) ∷ (not (true_T (sendable set) t i), 5) ∷ [])

@@ -5,15 +5,15 @@ use mathlib.Core.Path.{refl, subst⁻¹}
 use mathlib.Core.List.{[]}
 use Rattle.receiver.specs.Receiving.{receive}
 use Rattle.records.specs.declared.Record.{Record}
-use Rattle.calls.specs.Model.{answer_of, ReceiveArguments, receiveKind}
+use Rattle.calls.specs.Model.{answer_of, ReceiveArguments, receive_kind}
 use Rattle.calls.specs.Calls.{ReceiveCall, ReceiveStep}
 use Rattle.calls.proofs.PackingCalls.{slice}
-use Rattle.calls.specs.CodeCalls.{receiveCall, CodeInPlace, InPlaceSays, Way, by_value, in_place, CodeReceivesBy, CodeReceives}
+use Rattle.calls.specs.CodeCalls.{receive_call, CodeInPlace, InPlaceSays, Way, by_value, in_place, CodeReceivesBy, CodeReceives}
 
 -- there is such a call of each way for every record, order and frame
-pub receive-had : (way : Way) (given : Record) (x : ReceiveArguments)
-    → CodeReceivesBy way (receiveCall x.order given x.frame (receive x.order given x.frame).answer (receive x.order given x.frame).next)
-receive-had by_value given x = record {
+pub receive_had : (way : Way) (given : Record) (x : ReceiveArguments)
+    → CodeReceivesBy way (receive_call x.order given x.frame (receive x.order given x.frame).answer (receive x.order given x.frame).next)
+receive_had by_value given x = record {
   κs = ([], ([], tt));
   passed = (given, (slice x.frame, (slice x.order, tt)));
   gave = receive x.order given x.frame;
@@ -21,20 +21,20 @@ receive-had by_value given x = record {
   contract = refl;
   observed = refl;
 }
-receive-had in_place given x = (refl, refl)
+receive_had in_place given x = (refl, refl)
 
 -- the two clauses of the call in place say exactly that
-pub in-place-says : InPlaceSays
-in-place-says M 𝓤 𝓛 κs m run rec bytes order rec' bytes' order' r = (refl, refl)
+pub in_place_says : InPlaceSays
+in_place_says M 𝓤 𝓛 κs m run rec bytes order rec' bytes' order' r = (refl, refl)
 
 -- whichever way it is made, a call gives the answer and the record of the definition
-pub receive-owes : (way : Way) (c : ReceiveCall receiveKind) → CodeReceivesBy way c → CodeInPlace c
-receive-owes by_value c k = subst⁻¹ CodeInPlace k.observed (λ i. (k.contract i).answer, λ i. (k.contract i).next)
-receive-owes in_place c k = k
+pub receive_owes : (way : Way) (c : ReceiveCall receive_kind) → CodeReceivesBy way c → CodeInPlace c
+receive_owes by_value c k = subst⁻¹ CodeInPlace k.observed (λ i. (k.contract i).answer, λ i. (k.contract i).next)
+receive_owes in_place c k = k
 
 -- so a receiving call of the code does what the model does
-pub code-receives : (c : ReceiveCall receiveKind) → CodeReceives c → ReceiveStep c
+pub code_receives : (c : ReceiveCall receive_kind) → CodeReceives c → ReceiveStep c
 unfolding receive
-code-receives c k =
-    let h = receive-owes k.0 c k.1 in
+code_receives c k =
+    let h = receive_owes k.0 c k.1 in
     λ i. record { answer = answer_of (h.0 i); state = h.1 i }

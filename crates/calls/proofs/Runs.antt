@@ -5,58 +5,58 @@ use mathlib.Core.Path.{◌≡◌, refl, sym, ap, ◌∙◌, subst}
 use mathlib.Core.List.{List, [], ◌∷◌, map}
 use Prim.Native.Nat.{ℕ, zero, suc}
 use Rattle.calls.specs.Model.{Outcome, outcomes}
-use Rattle.calls.specs.Calls.{Run, keepUnless, unrefused}
+use Rattle.calls.specs.Calls.{Run, keep_unless, unrefused}
 use Rattle.bits.specs.Lists.{Every}
 
 module _ {C S : Type 0} (given left : C → S) (Keeps : C → Type 0) where
   -- all that is observed is what the model gives
-  pub run-outcomes : {X A : Type 0} (arguments : C → X) (seen : C → Outcome A S) (model : S → X → Outcome A S)
+  pub run_outcomes : {X A : Type 0} (arguments : C → X) (seen : C → Outcome A S) (model : S → X → Outcome A S)
       → ((c : C) → Keeps c → seen c ≡ model (given c) (arguments c)) → ((c : C) → (seen c).state ≡ left c)
       → (s : S) (cs : List C) → Run given left Keeps s cs → map seen cs ≡ outcomes model s (map arguments cs)
-  run-outcomes arguments seen model keeps leaves s [] h = refl
-  run-outcomes arguments seen model keeps leaves s (c ∷ cs) h =
+  run_outcomes arguments seen model keeps leaves s [] h = refl
+  run_outcomes arguments seen model keeps leaves s (c ∷ cs) h =
       let here : seen c ≡ model s (arguments c) = keeps c h.1 ∙ ap (λ (t : S). model t (arguments c)) h.0 in
       let state : left c ≡ (model s (arguments c)).state = sym (leaves c) ∙ ap (λ (o : Outcome _ S). o.state) here in
-      let rest = run-outcomes arguments seen model keeps leaves (left c) cs h.2 ∙ ap (λ (t : S). outcomes model t (map arguments cs)) state in
+      let rest = run_outcomes arguments seen model keeps leaves (left c) cs h.2 ∙ ap (λ (t : S). outcomes model t (map arguments cs)) state in
       λ i. here i ∷ rest i
 
   -- contracts that imply others
-  pub run-weaker : (Weaker : C → Type 0) → ((c : C) → Keeps c → Weaker c) → (s : S) (cs : List C) → Run given left Keeps s cs → Run given left Weaker s cs
-  run-weaker Weaker keeps s [] h = tt
-  run-weaker Weaker keeps s (c ∷ cs) h = (h.0, keeps c h.1, run-weaker Weaker keeps (left c) cs h.2)
+  pub run_weaker : (Weaker : C → Type 0) → ((c : C) → Keeps c → Weaker c) → (s : S) (cs : List C) → Run given left Keeps s cs → Run given left Weaker s cs
+  run_weaker Weaker keeps s [] h = tt
+  run_weaker Weaker keeps s (c ∷ cs) h = (h.0, keeps c h.1, run_weaker Weaker keeps (left c) cs h.2)
 
   -- what each contract gives holds of every call
-  pub run-every : (P : C → Type 0) → ((c : C) → Keeps c → P c) → (s : S) (cs : List C) → Run given left Keeps s cs → Every P cs
-  run-every P keeps s [] h = tt
-  run-every P keeps s (c ∷ cs) h = (keeps c h.1, run-every P keeps (left c) cs h.2)
+  pub run_every : (P : C → Type 0) → ((c : C) → Keeps c → P c) → (s : S) (cs : List C) → Run given left Keeps s cs → Every P cs
+  run_every P keeps s [] h = tt
+  run_every P keeps s (c ∷ cs) h = (keeps c h.1, run_every P keeps (left c) cs h.2)
 
   -- what holds of every call beside the contracts
-  pub run-with : (P : C → Type 0) (s : S) (cs : List C) → Run given left Keeps s cs → Every P cs → Run given left (λ c. Keeps c × P c) s cs
-  run-with P s [] h e = tt
-  run-with P s (c ∷ cs) h e = (h.0, (h.1, e.0), run-with P (left c) cs h.2 e.1)
+  pub run_with : (P : C → Type 0) (s : S) (cs : List C) → Run given left Keeps s cs → Every P cs → Run given left (λ c. Keeps c × P c) s cs
+  run_with P s [] h e = tt
+  run_with P s (c ∷ cs) h e = (h.0, (h.1, e.0), run_with P (left c) cs h.2 e.1)
 
   -- the calls that are not refused follow one another, since a refused one leaves the state
-  pub run-unrefused : (refusal : C → ℕ) → ((c : C) (n : ℕ) → Keeps c → refusal c ≡ suc n → left c ≡ given c) → (s : S) (cs : List C)
+  pub run_unrefused : (refusal : C → ℕ) → ((c : C) (n : ℕ) → Keeps c → refusal c ≡ suc n → left c ≡ given c) → (s : S) (cs : List C)
       → Run given left Keeps s cs → Run given left (λ c. Keeps c × (refusal c ≡ 0)) s (unrefused refusal cs)
-  run-unrefused refusal leaves s [] h = tt
-  run-unrefused refusal leaves s (c ∷ cs) h = go (refusal c) refl (λ (t : S). run-unrefused refusal leaves t cs)
+  run_unrefused refusal leaves s [] h = tt
+  run_unrefused refusal leaves s (c ∷ cs) h = go (refusal c) refl (λ (t : S). run_unrefused refusal leaves t cs)
     where
       go : (n : ℕ) → refusal c ≡ n → ((t : S) → Run given left Keeps t cs → Run given left (λ c. Keeps c × (refusal c ≡ 0)) t (unrefused refusal cs))
-          → Run given left (λ c. Keeps c × (refusal c ≡ 0)) s (keepUnless n c (unrefused refusal cs))
+          → Run given left (λ c. Keeps c × (refusal c ≡ 0)) s (keep_unless n c (unrefused refusal cs))
       go zero e rest = (h.0, (h.1, e), rest (left c) h.2)
       go (suc n) e rest = rest s (subst (λ (t : S). Run given left Keeps t cs) (leaves c n h.1 e ∙ h.0) h.2)
 
 -- a refused call is not kept
-pub refused-left-out : {C : Type 0} (n : ℕ) (c : C) (cs : List C) → ¬ (n ≡ 0) → keepUnless n c cs ≡ cs
-refused-left-out zero c cs h = absurd (h refl)
-refused-left-out (suc n) c cs h = refl
+pub refused_left_out : {C : Type 0} (n : ℕ) (c : C) (cs : List C) → ¬ (n ≡ 0) → keep_unless n c cs ≡ cs
+refused_left_out zero c cs h = absurd (h refl)
+refused_left_out (suc n) c cs h = refl
 
 -- calls whose refusal depends on something in them alone
-pub unrefused-map : {C X : Type 0} (f : C → X) (refusal : X → ℕ) (cs : List C) → map f (unrefused (λ c. refusal (f c)) cs) ≡ unrefused refusal (map f cs)
-unrefused-map f refusal [] = refl
-unrefused-map f refusal (c ∷ cs) = go (refusal (f c)) (unrefused-map f refusal cs)
+pub unrefused_map : {C X : Type 0} (f : C → X) (refusal : X → ℕ) (cs : List C) → map f (unrefused (λ c. refusal (f c)) cs) ≡ unrefused refusal (map f cs)
+unrefused_map f refusal [] = refl
+unrefused_map f refusal (c ∷ cs) = go (refusal (f c)) (unrefused_map f refusal cs)
   where
     go : (n : ℕ) → map f (unrefused (λ c. refusal (f c)) cs) ≡ unrefused refusal (map f cs)
-        → map f (keepUnless n c (unrefused (λ c. refusal (f c)) cs)) ≡ keepUnless n (f c) (unrefused refusal (map f cs))
+        → map f (keep_unless n c (unrefused (λ c. refusal (f c)) cs)) ≡ keep_unless n (f c) (unrefused refusal (map f cs))
     go zero e = λ i. f c ∷ e i
     go (suc n) e = e

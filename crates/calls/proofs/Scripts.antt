@@ -8,71 +8,71 @@ use native.Mathlib.Omega.{arith}
 use lib.Dec.{T}
 use lib.ListN.{length}
 use Rattle.bits.specs.Lists.{Every}
-use Rattle.order.specs.Order.{frameRefusal}
+use Rattle.order.specs.Order.{frame_refusal}
 use Rattle.records.specs.Records.{valid}
 use Rattle.records.specs.declared.Record.{Record}
-use Rattle.receiver.specs.Receiving.{receiveRefusal, receive}
-use Rattle.receiver.proofs.Refusals.{not-refused, not-refused-only}
-use Rattle.receiver.proofs.Validity.{receive-valid}
-use Rattle.calls.specs.Model.{ReceiveArguments, receiveKind}
-use Rattle.calls.specs.Calls.{ReceiveCall, receiveOrder, frameIn, receiveCallRefusal, ReceiveRun, keepUnless, unrefused}
+use Rattle.receiver.specs.Receiving.{receive_refusal, receive}
+use Rattle.receiver.proofs.Refusals.{not_refused, not_refused_only}
+use Rattle.receiver.proofs.Validity.{receive_valid}
+use Rattle.calls.specs.Model.{ReceiveArguments, receive_kind}
+use Rattle.calls.specs.Calls.{ReceiveCall, receive_order, frame_in, receive_call_refusal, ReceiveRun, keep_unless, unrefused}
 use Rattle.calls.specs.Script.{Wish, next, other, nexts, OtherRefused, Granted}
-use Rattle.calls.specs.CodeCalls.{receiveCall}
-use Rattle.calls.proofs.Runs.{refused-left-out}
+use Rattle.calls.specs.CodeCalls.{receive_call}
+use Rattle.calls.proofs.Runs.{refused_left_out}
 
 -- the call that an order and a frame lead to, from a record
-abbrev pub receiveOne : Record → ReceiveArguments → ReceiveCall receiveKind
-receiveOne r x = receiveCall x.order r x.frame (receive x.order r x.frame).answer (receive x.order r x.frame).next
+abbrev pub receive_one : Record → ReceiveArguments → ReceiveCall receive_kind
+receive_one r x = receive_call x.order r x.frame (receive x.order r x.frame).answer (receive x.order r x.frame).next
 
-module _ {Way : Type 0} (Receives : Way → ReceiveCall receiveKind → Type 0)
-    (receive-had : (way : Way) (r : Record) (x : ReceiveArguments) → Receives way (receiveOne r x)) (ord : List ℕ) where
+module _ {Way : Type 0} (Receives : Way → ReceiveCall receive_kind → Type 0)
+    (receive_had : (way : Way) (r : Record) (x : ReceiveArguments) → Receives way (receive_one r x)) (ord : List ℕ) where
   -- calls by a script from a record, which take these frames in the order
   pub record Served (r : Record) (script : List (Wish Way)) (bs : List (List ℕ)) : Type 0 where
-    pub receives : List (ReceiveCall receiveKind)
+    pub receives : List (ReceiveCall receive_kind)
     pub granted : Granted Receives script receives
     pub run : ReceiveRun (λ c. (way : Way) × Receives way c) r receives
-    pub same : Every (λ c. receiveOrder c ≡ ord) (unrefused receiveCallRefusal receives)
-    pub delivered : map frameIn (unrefused receiveCallRefusal receives) ≡ bs
+    pub same : Every (λ c. receive_order c ≡ ord) (unrefused receive_call_refusal receives)
+    pub delivered : map frame_in (unrefused receive_call_refusal receives) ≡ bs
 
   module _ (r : Record) (v : T (valid r)) (way : Way) (script : List (Wish Way)) (bs : List (List ℕ)) where
     -- one more call that takes a frame
-    next-served : (b : List ℕ) → Served (receive ord r b).next script bs → frameRefusal ord b ≡ 0 → Served r (next way ∷ script) (b ∷ bs)
-    next-served b rest e =
+    next_served : (b : List ℕ) → Served (receive ord r b).next script bs → frame_refusal ord b ≡ 0 → Served r (next way ∷ script) (b ∷ bs)
+    next_served b rest e =
         let x : ReceiveArguments = record { order = ord; frame = b } in
-        let taken = not-refused ord r b e v in
-        let kept : unrefused receiveCallRefusal (receiveOne r x ∷ rest.receives) ≡ receiveOne r x ∷ unrefused receiveCallRefusal rest.receives =
-        ap (λ (n : ℕ). keepUnless n (receiveOne r x) (unrefused receiveCallRefusal rest.receives)) taken in
+        let taken = not_refused ord r b e v in
+        let kept : unrefused receive_call_refusal (receive_one r x ∷ rest.receives) ≡ receive_one r x ∷ unrefused receive_call_refusal rest.receives =
+        ap (λ (n : ℕ). keep_unless n (receive_one r x) (unrefused receive_call_refusal rest.receives)) taken in
         record {
-          receives = receiveOne r x ∷ rest.receives;
-          granted = (receive-had way r x, taken, rest.granted);
-          run = (refl, (way, receive-had way r x), rest.run);
-          same = subst⁻¹ (Every (λ c. receiveOrder c ≡ ord)) kept (refl, rest.same);
-          delivered = ap (map frameIn) kept ∙ ap (λ (l : List (List ℕ)). b ∷ l) rest.delivered;
+          receives = receive_one r x ∷ rest.receives;
+          granted = (receive_had way r x, taken, rest.granted);
+          run = (refl, (way, receive_had way r x), rest.run);
+          same = subst⁻¹ (Every (λ c. receive_order c ≡ ord)) kept (refl, rest.same);
+          delivered = ap (map frame_in) kept ∙ ap (λ (l : List (List ℕ)). b ∷ l) rest.delivered;
         }
 
     -- and one that is refused
-    other-served : (x : ReceiveArguments) → Served (receive x.order r x.frame).next script bs → ¬ (frameRefusal x.order x.frame ≡ 0)
+    other_served : (x : ReceiveArguments) → Served (receive x.order r x.frame).next script bs → ¬ (frame_refusal x.order x.frame ≡ 0)
         → Served r (other way x ∷ script) bs
-    other-served x rest e =
-        let left : unrefused receiveCallRefusal (receiveOne r x ∷ rest.receives) ≡ unrefused receiveCallRefusal rest.receives =
-        refused-left-out (receiveRefusal x.order r x.frame) (receiveOne r x) (unrefused receiveCallRefusal rest.receives)
-        (λ z. e (not-refused-only x.order r x.frame z).0) in
+    other_served x rest e =
+        let left : unrefused receive_call_refusal (receive_one r x ∷ rest.receives) ≡ unrefused receive_call_refusal rest.receives =
+        refused_left_out (receive_refusal x.order r x.frame) (receive_one r x) (unrefused receive_call_refusal rest.receives)
+        (λ z. e (not_refused_only x.order r x.frame z).0) in
         record {
-          receives = receiveOne r x ∷ rest.receives;
-          granted = (receive-had way r x, refl, rest.granted);
-          run = (refl, (way, receive-had way r x), rest.run);
-          same = subst⁻¹ (Every (λ c. receiveOrder c ≡ ord)) left rest.same;
-          delivered = ap (map frameIn) left ∙ rest.delivered;
+          receives = receive_one r x ∷ rest.receives;
+          granted = (receive_had way r x, refl, rest.granted);
+          run = (refl, (way, receive_had way r x), rest.run);
+          same = subst⁻¹ (Every (λ c. receive_order c ≡ ord)) left rest.same;
+          delivered = ap (map frame_in) left ∙ rest.delivered;
         }
 
-  pub script-served : (r : Record) (script : List (Wish Way)) (bs : List (List ℕ)) → T (valid r) → nexts script ≡ length bs → Every OtherRefused script
-      → Every (λ b. frameRefusal ord b ≡ 0) bs → Served r script bs
-  script-served r [] [] v n q h = record { receives = []; granted = tt; run = tt; same = tt; delivered = refl }
-  script-served r [] (b ∷ bs) v n q h = absurd (omega arith)
-  script-served r (next way ∷ script) [] v n q h = absurd (omega arith)
-  script-served r (next way ∷ script) (b ∷ bs) v n q h =
+  pub script_served : (r : Record) (script : List (Wish Way)) (bs : List (List ℕ)) → T (valid r) → nexts script ≡ length bs → Every OtherRefused script
+      → Every (λ b. frame_refusal ord b ≡ 0) bs → Served r script bs
+  script_served r [] [] v n q h = record { receives = []; granted = tt; run = tt; same = tt; delivered = refl }
+  script_served r [] (b ∷ bs) v n q h = absurd (omega arith)
+  script_served r (next way ∷ script) [] v n q h = absurd (omega arith)
+  script_served r (next way ∷ script) (b ∷ bs) v n q h =
       let m : nexts script ≡ length bs = omega arith in
-      next-served r v way script bs b (script-served (receive ord r b).next script bs (receive-valid ord r b v) m q.1 h.1) h.0
-  script-served r (other way x ∷ script) bs v n q h =
-      other-served r v way script bs x
-      (script-served (receive x.order r x.frame).next script bs (receive-valid x.order r x.frame v) n q.1 h) q.0
+      next_served r v way script bs b (script_served (receive ord r b).next script bs (receive_valid ord r b v) m q.1 h.1) h.0
+  script_served r (other way x ∷ script) bs v n q h =
+      other_served r v way script bs x
+      (script_served (receive x.order r x.frame).next script bs (receive_valid x.order r x.frame v) n q.1 h) q.0

@@ -5,34 +5,34 @@ use mathlib.Core.List.{List, []}
 use Prim.Native.Nat.{ℕ}
 use Rattle.order.specs.Order.{Order}
 use Rattle.frame.specs.Layout.{frame}
-use Rattle.sets.proofs.Ranges.{sendable-fits}
+use Rattle.sets.proofs.Ranges.{sendable_fits}
 use Rattle.receiver.specs.Receiving.{receive}
-use Rattle.receiver.specs.SoftReceiving.{softReceive}
+use Rattle.receiver.specs.SoftReceiving.{soft_receive}
 use Rattle.receiver.specs.declared.Received.{Received}
 use Rattle.records.specs.declared.Record.{Record}
-use Rattle.damage.proofs.SoftReturn.{undamaged-alike}
+use Rattle.damage.proofs.SoftReturn.{undamaged_alike}
 use Rattle.calls.specs.Model.{answer_of}
 use Rattle.calls.specs.Calls.{ReceiveStep}
 use Rattle.calls.specs.CodeCalls.{Way, by_value, in_place}
 use Rattle.calls.specs.SoftCalls.{SoftCall, plainly, CodeReceivesSoft, SoftInPlaceSays, SoftReturn, SoftHad}
-use Rattle.calls.proofs.Demands.{demand-2}
-use Rattle.calls.proofs.PackingCalls.{slice, code-packs}
-use Rattle.calls.proofs.Steps.{pack-order, pack-sendable, pack-sent}
+use Rattle.calls.proofs.Demands.{demand_2}
+use Rattle.calls.proofs.PackingCalls.{slice, code_packs}
+use Rattle.calls.proofs.Steps.{pack_order_lem, pack_sendable, pack_sent}
 
 -- the two clauses of the call in place say exactly that
-pub soft-in-place-says : SoftInPlaceSays
-soft-in-place-says M 𝓤 𝓛 κs m run rec bytes order confidences rec' bytes' order' confidences' r = (refl, refl)
+pub soft_in_place_says : SoftInPlaceSays
+soft_in_place_says M 𝓤 𝓛 κs m run rec bytes order confidences rec' bytes' order' confidences' r = (refl, refl)
 
 -- such calls can be had
 module _ (order : List ℕ) (given : Record) (bytes confidences : List ℕ) where
   abbrev found : Received
-  found = softReceive order given bytes confidences
+  found = soft_receive order given bytes confidences
 
   abbrev call : SoftCall
   call = record { order = order; frame = bytes; confidences = confidences; given = given; answer = found.answer; left = found.next }
 
-  pub soft-made : (way : Way) → CodeReceivesSoft way call
-  soft-made by_value = record {
+  pub soft_made : (way : Way) → CodeReceivesSoft way call
+  soft_made by_value = record {
     κs = ([], ([], ([], tt)));
     passed = (given, (slice bytes, (slice order, (slice confidences, tt))));
     gave = found;
@@ -40,34 +40,34 @@ module _ (order : List ℕ) (given : Record) (bytes confidences : List ℕ) wher
     contract = refl;
     observed = refl;
   }
-  soft-made in_place = (refl, refl)
+  soft_made in_place = (refl, refl)
 
-  pub soft-had : (way : Way) → SoftHad way order given bytes confidences
-  soft-had way = record { call = call; made = soft-made way; order_is = refl; frame_is = refl; confidences-are = refl; given_is = refl }
+  pub soft_had : (way : Way) → SoftHad way order given bytes confidences
+  soft_had way = record { call = call; made = soft_made way; order_is = refl; frame_is = refl; confidences_are = refl; given_is = refl }
 
 -- whichever way it is made, a call gives the answer and the record of the definition
-pub soft-owes : (way : Way) (d : SoftCall) → CodeReceivesSoft way d → CodeReceivesSoft in_place d
-soft-owes by_value d m = subst⁻¹ (CodeReceivesSoft in_place) m.observed (λ i. (m.contract i).answer, λ i. (m.contract i).next)
-soft-owes in_place d m = m
+pub soft_owes : (way : Way) (d : SoftCall) → CodeReceivesSoft way d → CodeReceivesSoft in_place d
+soft_owes by_value d m = subst⁻¹ (CodeReceivesSoft in_place) m.observed (λ i. (m.contract i).answer, λ i. (m.contract i).next)
+soft_owes in_place d m = m
 
 -- a frame that is received alike with these confidences and without: the model's step
 plain_step : (way : Way) (d : SoftCall) → CodeReceivesSoft way d
-    → softReceive d.order d.given d.frame d.confidences ≡ receive d.order d.given d.frame → ReceiveStep (plainly d)
+    → soft_receive d.order d.given d.frame d.confidences ≡ receive d.order d.given d.frame → ReceiveStep (plainly d)
 unfolding receive
 plain_step way d m same =
-    let x = soft-owes way d m in
+    let x = soft_owes way d m in
     λ i. record { answer = answer_of ((x.0 ∙ ap (λ (y : Received). y.answer) same) i); state = (x.1 ∙ ap (λ (y : Received). y.next) same) i }
 
 -- the set that was packed returns
-pub soft-return : SoftReturn
-soft-return c way d k m e v o f size above =
-    let p = code-packs c k in
+pub soft_return : SoftReturn
+soft_return c way d k m e v o f size above =
+    let p = code_packs c k in
     let set = c.arguments.set in
     let ord = d.order in
-    let is-order : Order ord = subst⁻¹ Order o (pack-order c p e) in
-    let bytes : d.frame ≡ frame ord set c.given = f ∙ pack-sent c p e ∙ ap (λ (x : List ℕ). frame x set c.given) (sym o) in
-    let same : softReceive ord d.given d.frame d.confidences ≡ receive ord d.given d.frame =
-    ap (λ (b : List ℕ). softReceive ord d.given b d.confidences) bytes
-    ∙ undamaged-alike ord is-order d.confidences size above d.given set c.given (sendable-fits set (pack-sendable c p e))
+    let is_order_lem : Order ord = subst⁻¹ Order o (pack_order_lem c p e) in
+    let bytes : d.frame ≡ frame ord set c.given = f ∙ pack_sent c p e ∙ ap (λ (x : List ℕ). frame x set c.given) (sym o) in
+    let same : soft_receive ord d.given d.frame d.confidences ≡ receive ord d.given d.frame =
+    ap (λ (b : List ℕ). soft_receive ord d.given b d.confidences) bytes
+    ∙ undamaged_alike ord is_order_lem d.confidences size above d.given set c.given (sendable_fits set (pack_sendable c p e))
     ∙ sym (ap (receive ord d.given) bytes) in
-    demand-2.calls.returns c (plainly d) p (plain_step way d m same) e v o f
+    demand_2.calls.returns c (plainly d) p (plain_step way d m same) e v o f

@@ -6,7 +6,7 @@ use Rattle.receiver.specs.declared.FrameResult.{FrameResult}
 use Rattle.receiver.specs.declared.ReceiveAnswer.{ReceiveAnswer}
 use Rattle.calls.specs.Model.{Outcome, answer_of}
 use Rattle.calls.specs.Calls.{Run}
-use Rattle.calls.specs.CodeCalls.{receiveCall, Way, CodeReceivesBy}
+use Rattle.calls.specs.CodeCalls.{receive_call, Way, CodeReceivesBy}
 use Rattle.calls.specs.SoftCalls.{CodeReceivesSoft}
 
 -- what a call is passed besides the record: an order and a frame, or an order, a frame and confidences
@@ -22,12 +22,12 @@ pub record AnyCall : Type 0 where
   pub left : Record
 
 -- what is compared of it: every part of the result or the number, and the record after it
-abbrev pub anyOutcome : AnyCall → Outcome FrameResult Record
-anyOutcome c = record { answer = answer_of c.answer; state = c.left }
+abbrev pub any_outcome : AnyCall → Outcome FrameResult Record
+any_outcome c = record { answer = answer_of c.answer; state = c.left }
 
 -- one of the code's four, made in one of two ways
 abbrev pub CodeReceivesAs : Way → Passed → Record → ReceiveAnswer → Record → Type 0
-CodeReceivesAs way (plain order bytes) given answer left = CodeReceivesBy way (receiveCall order given bytes answer left)
+CodeReceivesAs way (plain order bytes) given answer left = CodeReceivesBy way (receive_call order given bytes answer left)
 CodeReceivesAs way (soft order bytes confidences) given answer left =
     CodeReceivesSoft way (record { order = order; frame = bytes; confidences = confidences; given = given; answer = answer; left = left })
 

@@ -7,7 +7,7 @@ use Rattle.frame.specs.declared.PackAnswer.TheVariants as pack
 use Rattle.receiver.specs.declared.FrameResult.{FrameResult}
 use Rattle.records.specs.declared.Record.{Record}
 use Rattle.receiver.specs.declared.ReceiveAnswer.{ReceiveAnswer}
-use Rattle.calls.specs.Model.{Answer, done, refused, Outcome, PackKind, packModel, ReceiveKind, answer_of, receiveModel}
+use Rattle.calls.specs.Model.{Answer, done, refused, Outcome, PackKind, pack_model, ReceiveKind, answer_of, receive_model}
 
 -- a packing call of a kind: its arguments, the sync bit it was given, its answer, and the lent output afterwards
 pub record PackCall (P : PackKind) : Type 0 where
@@ -17,34 +17,34 @@ pub record PackCall (P : PackKind) : Type 0 where
   pub output : List ℕ
 
 -- the order that it is lent, the set that it is to pack, and the number that refuses it, 0 is none
-abbrev pub packOrder : {P : PackKind} → PackCall P → List ℕ
-packOrder {P} c = P.order c.arguments
+abbrev pub pack_order : {P : PackKind} → PackCall P → List ℕ
+pack_order {P} c = P.order c.arguments
 
-abbrev pub setIn : {P : PackKind} → PackCall P → ParameterSet
-setIn {P} c = P.set c.arguments
+abbrev pub set_in : {P : PackKind} → PackCall P → ParameterSet
+set_in {P} c = P.set c.arguments
 
-abbrev pub packCallRefusal : {P : PackKind} → PackCall P → ℕ
-packCallRefusal {P} c = P.refusal c.given c.arguments
+abbrev pub pack_call_refusal : {P : PackKind} → PackCall P → ℕ
+pack_call_refusal {P} c = P.refusal c.given c.arguments
 
 -- the sync bit after it: the one it returned, or after a refusal the one it was given, which its holder keeps
-abbrev pub syncAfter : Bool → PackAnswer → Bool
-syncAfter given (pack.Packed next) = next
-syncAfter given (pack.Refused n) = given
+abbrev pub sync_after : Bool → PackAnswer → Bool
+sync_after given (pack.Packed next) = next
+sync_after given (pack.Refused n) = given
 
-abbrev pub packLeft : {P : PackKind} → PackCall P → Bool
-packLeft c = syncAfter c.given c.answer
+abbrev pub pack_left : {P : PackKind} → PackCall P → Bool
+pack_left c = sync_after c.given c.answer
 
 -- the seven bytes in front of its output
 abbrev pub sent : {P : PackKind} → PackCall P → List ℕ
 sent c = take 7 c.output
 
 -- what is compared of it: the seven bytes or the number, and the sync bit after it
-abbrev pub packAnswerOf : PackAnswer → List ℕ → Answer (List ℕ)
-packAnswerOf (pack.Packed next) bytes = done bytes
-packAnswerOf (pack.Refused n) bytes = refused n
+abbrev pub pack_answer_of : PackAnswer → List ℕ → Answer (List ℕ)
+pack_answer_of (pack.Packed next) bytes = done bytes
+pack_answer_of (pack.Refused n) bytes = refused n
 
-abbrev pub packOutcome : {P : PackKind} → PackCall P → Outcome (List ℕ) Bool
-packOutcome c = record { answer = packAnswerOf c.answer (sent c); state = packLeft c }
+abbrev pub pack_outcome : {P : PackKind} → PackCall P → Outcome (List ℕ) Bool
+pack_outcome c = record { answer = pack_answer_of c.answer (sent c); state = pack_left c }
 
 -- a receiving call of a kind, by value or in place: its arguments, the record it was given, its answer, and the record that it returned or left
 pub record ReceiveCall (R : ReceiveKind) : Type 0 where
@@ -54,33 +54,33 @@ pub record ReceiveCall (R : ReceiveKind) : Type 0 where
   pub left : Record
 
 -- the order that it is lent, the frame that it gets, and the number that refuses it, 0 is none
-abbrev pub receiveOrder : {R : ReceiveKind} → ReceiveCall R → List ℕ
-receiveOrder {R} c = R.order c.arguments
+abbrev pub receive_order : {R : ReceiveKind} → ReceiveCall R → List ℕ
+receive_order {R} c = R.order c.arguments
 
-abbrev pub frameIn : {R : ReceiveKind} → ReceiveCall R → List ℕ
-frameIn {R} c = R.frame c.arguments
+abbrev pub frame_in : {R : ReceiveKind} → ReceiveCall R → List ℕ
+frame_in {R} c = R.frame c.arguments
 
-abbrev pub receiveCallRefusal : {R : ReceiveKind} → ReceiveCall R → ℕ
-receiveCallRefusal {R} c = R.refusal c.given c.arguments
+abbrev pub receive_call_refusal : {R : ReceiveKind} → ReceiveCall R → ℕ
+receive_call_refusal {R} c = R.refusal c.given c.arguments
 
 -- what is compared of it: every part of the result or the number, and the record after it
-abbrev pub receiveOutcome : {R : ReceiveKind} → ReceiveCall R → Outcome FrameResult Record
-receiveOutcome c = record { answer = answer_of c.answer; state = c.left }
+abbrev pub receive_outcome : {R : ReceiveKind} → ReceiveCall R → Outcome FrameResult Record
+receive_outcome c = record { answer = answer_of c.answer; state = c.left }
 
 -- what all lent bytes of a packing call hold afterwards: those past the seventh as before, after a refusal all
-abbrev pub lentAfter : Answer (List ℕ) → List ℕ → List ℕ
-lentAfter (done bytes) lent = bytes ++ drop 7 lent
-lentAfter (refused n) lent = lent
+abbrev pub lent_after : Answer (List ℕ) → List ℕ → List ℕ
+lent_after (done bytes) lent = bytes ++ drop 7 lent
+lent_after (refused n) lent = lent
 
 -- a call does from the state it was given what the model does from there
 module _ {P : PackKind} (c : PackCall P) where
   pub record PackStep : Type 0 where
-    pub outcome : packOutcome c ≡ packModel P c.given c.arguments
-    pub output : c.output ≡ lentAfter (packOutcome c).answer (P.lent c.arguments)
+    pub outcome : pack_outcome c ≡ pack_model P c.given c.arguments
+    pub output : c.output ≡ lent_after (pack_outcome c).answer (P.lent c.arguments)
 
 module _ {R : ReceiveKind} (c : ReceiveCall R) where
   abbrev pub ReceiveStep : Type 0
-  ReceiveStep = receiveOutcome c ≡ receiveModel R c.given c.arguments
+  ReceiveStep = receive_outcome c ≡ receive_model R c.given c.arguments
 
 -- a list of calls from a state: each keeps its contract, and each later one is given the state that the one before it returned or left
 abbrev pub Run : {C S : Type 0} → (C → S) → (C → S) → (C → Type 0) → S → List C → Type 0
@@ -88,19 +88,19 @@ Run given left Keeps s [] = Unit
 Run given left Keeps s (c ∷ cs) = (given c ≡ s) × Keeps c × Run given left Keeps (left c) cs
 
 abbrev pub PackRun : {P : PackKind} → (PackCall P → Type 0) → Bool → List (PackCall P) → Type 0
-PackRun Keeps = Run (λ c. c.given) packLeft Keeps
+PackRun Keeps = Run (λ c. c.given) pack_left Keeps
 
 abbrev pub ReceiveRun : {R : ReceiveKind} → (ReceiveCall R → Type 0) → Record → List (ReceiveCall R) → Type 0
 ReceiveRun Keeps = Run (λ c. c.given) (λ c. c.left) Keeps
 
 -- the calls that are not refused
-abbrev pub keepUnless : {C : Type 0} → ℕ → C → List C → List C
-keepUnless zero c cs = c ∷ cs
-keepUnless (suc n) c cs = cs
+abbrev pub keep_unless : {C : Type 0} → ℕ → C → List C → List C
+keep_unless zero c cs = c ∷ cs
+keep_unless (suc n) c cs = cs
 
 abbrev pub unrefused : {C : Type 0} → (C → ℕ) → List C → List C
 unrefused refusal [] = []
-unrefused refusal (c ∷ cs) = keepUnless (refusal c) c (unrefused refusal cs)
+unrefused refusal (c ∷ cs) = keep_unless (refusal c) c (unrefused refusal cs)
 
 -- the channel: of frame k, in the order packed, the places that `flips k` names among 0 to 53 are changed, and nothing else
 abbrev pub channel : (ℕ → ℕ → Bool) → List (List ℕ) → List (List ℕ)

@@ -21,12 +21,12 @@ use Rattle.receiver.specs.declared.ReceiveAnswer.{ReceiveAnswer}
 use Rattle.receiver.specs.contracts.receive as value
 use Rattle.receiver.proofs.receive.Reads as value-reads
 use Rattle.receiver.specs.contracts.receive_in_place as place
-use Rattle.calls.specs.Model.{packKind, receiveKind}
-use Rattle.calls.specs.Calls.{PackCall, ReceiveCall, receiveOrder, frameIn}
+use Rattle.calls.specs.Model.{pack_kind, receive_kind}
+use Rattle.calls.specs.Calls.{PackCall, ReceiveCall, receive_order, frame_in}
 
 -- a packing call by what it was passed, gave and left
-abbrev pub packCall : List ℕ → ParameterSet → Bool → List ℕ → PackAnswer → List ℕ → PackCall packKind
-packCall order set sync lent answer output = record {
+abbrev pub pack_call : List ℕ → ParameterSet → Bool → List ℕ → PackAnswer → List ℕ → PackCall pack_kind
+pack_call order set sync lent answer output = record {
   arguments = record { order = order; set = set; lent = lent };
   given = sync;
   answer = answer;
@@ -34,26 +34,26 @@ packCall order set sync lent answer output = record {
 }
 
 -- one of `frame::pack`
-pub record CodePacks (c : PackCall packKind) : Type 0 where
+pub record CodePacks (c : PackCall pack_kind) : Type 0 where
   pub κs : Lfts 2
   pub passed : ArgsD pack.signature κs
   pub gave : ResD pack.signature κs
   pub left : AtExit pack.ended κs
   pub contract : pack-reads.Post κs passed gave left
-  pub observed : c ≡ packCall passed.1.1.0.now passed.0 passed.1.0 passed.1.1.1.0.now gave left.1.1.1.0.now
+  pub observed : c ≡ pack_call passed.1.1.0.now passed.0 passed.1.0 passed.1.1.1.0.now gave left.1.1.1.0.now
 
 -- a receiving call by what it was passed, gave and left
-abbrev pub receiveCall : List ℕ → Record → List ℕ → ReceiveAnswer → Record → ReceiveCall receiveKind
-receiveCall order given bytes answer left = record { arguments = record { order = order; frame = bytes }; given = given; answer = answer; left = left }
+abbrev pub receive_call : List ℕ → Record → List ℕ → ReceiveAnswer → Record → ReceiveCall receive_kind
+receive_call order given bytes answer left = record { arguments = record { order = order; frame = bytes }; given = given; answer = answer; left = left }
 
 -- one of `receiver::receive`
-pub record CodeByValue (c : ReceiveCall receiveKind) : Type 0 where
+pub record CodeByValue (c : ReceiveCall receive_kind) : Type 0 where
   pub κs : Lfts 2
   pub passed : ArgsD value.signature κs
   pub gave : ResD value.signature κs
   pub left : AtExit value.ended κs
   pub contract : value-reads.Post κs passed gave left
-  pub observed : c ≡ receiveCall passed.1.1.0.now passed.0 passed.1.0.now gave.answer gave.next
+  pub observed : c ≡ receive_call passed.1.1.0.now passed.0 passed.1.0.now gave.answer gave.next
 
 -- what a call in place owes: the answer, and the record in the caller's memory afterwards
 abbrev pub Answered : List ℕ → Record → List ℕ → ReceiveAnswer → Type 0
@@ -63,18 +63,18 @@ abbrev pub Leaves : List ℕ → Record → List ℕ → Record → Type 0
 Leaves order given bytes left = left ≡ (receive order given bytes).next
 
 -- one of `receiver::receive_in_place`
-abbrev pub CodeInPlace : ReceiveCall receiveKind → Type 0
-CodeInPlace c = Answered (receiveOrder c) c.given (frameIn c) c.answer × Leaves (receiveOrder c) c.given (frameIn c) c.left
+abbrev pub CodeInPlace : ReceiveCall receive_kind → Type 0
+CodeInPlace c = Answered (receive_order c) c.given (frame_in c) c.answer × Leaves (receive_order c) c.given (frame_in c) c.left
 
 -- a receiving call of the code, made in one of two ways
 pub data Way : Type 0 where
   by_value in_place : Way
 
-abbrev pub CodeReceivesBy : Way → ReceiveCall receiveKind → Type 0
+abbrev pub CodeReceivesBy : Way → ReceiveCall receive_kind → Type 0
 CodeReceivesBy by_value c = CodeByValue c
 CodeReceivesBy in_place c = CodeInPlace c
 
-abbrev pub CodeReceives : ReceiveCall receiveKind → Type 0
+abbrev pub CodeReceives : ReceiveCall receive_kind → Type 0
 CodeReceives c = (way : Way) × CodeReceivesBy way c
 
 -- that the two clauses of the call in place are those equations, of the record, the frame and the order at entry and of the record at exit

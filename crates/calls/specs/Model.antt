@@ -2,9 +2,9 @@
 -- It takes the kind of call: another kind may be passed more, and have refusals of its own.
 use Rattle.std.specs.Prelude.{ℕ, zero, suc, ◌≡◌, Bool, not, List, [], ◌∷◌, length}
 use Rattle.frame.specs.Layout.{frame}
-use Rattle.frame.specs.Packing.{packRefusal}
+use Rattle.frame.specs.Packing.{pack_refusal}
 use Rattle.sets.specs.declared.ParameterSet.{ParameterSet}
-use Rattle.receiver.specs.Receiving.{receiveRefusal, receiveUnless}
+use Rattle.receiver.specs.Receiving.{receive_refusal, receive_unless}
 use Rattle.receiver.specs.declared.FrameResult.{FrameResult}
 use Rattle.records.specs.declared.Record.{Record}
 use Rattle.receiver.specs.declared.ReceiveAnswer.{ReceiveAnswer}
@@ -35,16 +35,16 @@ pub record PackKind : Type 1 where
   pub lent : Arguments → List ℕ
   pub refusal : Bool → Arguments → ℕ
   -- what the table refuses of an order, a set and an output, it refuses too
-  pub covers : (sync : Bool) (x : Arguments) → refusal sync x ≡ 0 → packRefusal (order x) (set x) (length (lent x)) ≡ 0
+  pub covers : (sync : Bool) (x : Arguments) → refusal sync x ≡ 0 → pack_refusal (order x) (set x) (length (lent x)) ≡ 0
 
 -- packing: a call that is refused gives its number and the sync bit stays; any other gives the frame of the set with this sync bit, in its own order, and
 -- the sync bit changes
-abbrev pub packUnless : ℕ → List ℕ → Bool → ParameterSet → Outcome (List ℕ) Bool
-packUnless zero ord sync set = record { answer = done (frame ord set sync); state = not sync }
-packUnless (suc n) ord sync set = record { answer = refused (suc n); state = sync }
+abbrev pub pack_unless : ℕ → List ℕ → Bool → ParameterSet → Outcome (List ℕ) Bool
+pack_unless zero ord sync set = record { answer = done (frame ord set sync); state = not sync }
+pack_unless (suc n) ord sync set = record { answer = refused (suc n); state = sync }
 
-abbrev pub packModel : (P : PackKind) → Bool → P.Arguments → Outcome (List ℕ) Bool
-packModel P sync x = packUnless (P.refusal sync x) (P.order x) sync (P.set x)
+abbrev pub pack_model : (P : PackKind) → Bool → P.Arguments → Outcome (List ℕ) Bool
+pack_model P sync x = pack_unless (P.refusal sync x) (P.order x) sync (P.set x)
 
 -- a kind of receiving call: what it is passed besides the record, the order and the frame therein, and the number that refuses it, 0 is none
 pub record ReceiveKind : Type 1 where
@@ -53,7 +53,7 @@ pub record ReceiveKind : Type 1 where
   pub frame : Arguments → List ℕ
   pub refusal : Record → Arguments → ℕ
   -- what the table refuses of an order, a frame and a record, it refuses too
-  pub covers : (r : Record) (x : Arguments) → refusal r x ≡ 0 → receiveRefusal (order x) r (frame x) ≡ 0
+  pub covers : (r : Record) (x : Arguments) → refusal r x ≡ 0 → receive_refusal (order x) r (frame x) ≡ 0
 
 -- receiving: a call that is refused gives its number and the record stays; any other gives the result and the next record that the
 -- definition of the receiver has for the bits received, in the call's own order, and this record
@@ -61,11 +61,11 @@ abbrev pub answer_of : ReceiveAnswer → Answer FrameResult
 answer_of (Result x) = done x
 answer_of (Refused n) = refused n
 
-abbrev pub outcomeOf : Received → Outcome FrameResult Record
-outcomeOf y = record { answer = answer_of y.answer; state = y.next }
+abbrev pub outcome_of : Received → Outcome FrameResult Record
+outcome_of y = record { answer = answer_of y.answer; state = y.next }
 
-abbrev pub receiveModel : (R : ReceiveKind) → Record → R.Arguments → Outcome FrameResult Record
-receiveModel R r x = outcomeOf (receiveUnless (R.refusal r x) (R.order x) r (R.frame x))
+abbrev pub receive_model : (R : ReceiveKind) → Record → R.Arguments → Outcome FrameResult Record
+receive_model R r x = outcome_of (receive_unless (R.refusal r x) (R.order x) r (R.frame x))
 
 -- document 01's own calls with the order that document 02, T-07, lends them, which only the table refuses: packing is passed an order, a set and a lent
 -- output, receiving an order and a frame
@@ -74,13 +74,13 @@ pub record PackArguments : Type 0 where
   pub set : ParameterSet
   pub lent : List ℕ
 
-abbrev pub packKind : PackKind
-packKind = record {
+abbrev pub pack_kind : PackKind
+pack_kind = record {
   Arguments = PackArguments;
   order = λ x. x.order;
   set = λ x. x.set;
   lent = λ x. x.lent;
-  refusal = λ sync x. packRefusal x.order x.set (length x.lent);
+  refusal = λ sync x. pack_refusal x.order x.set (length x.lent);
   covers = λ sync x e. e;
 }
 
@@ -88,11 +88,11 @@ pub record ReceiveArguments : Type 0 where
   pub order : List ℕ
   pub frame : List ℕ
 
-abbrev pub receiveKind : ReceiveKind
-receiveKind = record {
+abbrev pub receive_kind : ReceiveKind
+receive_kind = record {
   Arguments = ReceiveArguments;
   order = λ x. x.order;
   frame = λ x. x.frame;
-  refusal = λ r x. receiveRefusal x.order r x.frame;
+  refusal = λ r x. receive_refusal x.order r x.frame;
   covers = λ r x e. e;
 }

@@ -14,15 +14,15 @@ use denote.Triple.Clauses.{AtExit}
 use Rattle.bits.specs.Lists.{Every}
 use Rattle.records.specs.Records.{valid}
 use Rattle.records.specs.declared.Record.{Record}
-use Rattle.receiver.specs.SoftReceiving.{softReceive}
+use Rattle.receiver.specs.SoftReceiving.{soft_receive}
 use Rattle.receiver.specs.declared.ReceiveAnswer.{ReceiveAnswer}
 use Rattle.receiver.specs.contracts.receive_soft as value
 use Rattle.receiver.proofs.receive_soft.Reads as value-reads
 use Rattle.receiver.specs.contracts.receive_soft_in_place as place
-use Rattle.calls.specs.Model.{packKind, receiveKind}
-use Rattle.calls.specs.Calls.{PackCall, packOrder, packCallRefusal, sent, ReceiveCall}
+use Rattle.calls.specs.Model.{pack_kind, receive_kind}
+use Rattle.calls.specs.Calls.{PackCall, pack_order, pack_call_refusal, sent, ReceiveCall}
 use Rattle.calls.specs.Return.{Returns}
-use Rattle.calls.specs.CodeCalls.{CodePacks, receiveCall, Way, by_value, in_place}
+use Rattle.calls.specs.CodeCalls.{CodePacks, receive_call, Way, by_value, in_place}
 
 -- a receiving call with confidences, by value or in place: its order, frame and confidences, the record it was given, its answer, and the record that it
 -- returned or left
@@ -35,8 +35,8 @@ pub record SoftCall : Type 0 where
   pub left : Record
 
 -- what is observed of it but for the confidences
-abbrev pub plainly : SoftCall → ReceiveCall receiveKind
-plainly d = receiveCall d.order d.given d.frame d.answer d.left
+abbrev pub plainly : SoftCall → ReceiveCall receive_kind
+plainly d = receive_call d.order d.given d.frame d.answer d.left
 
 -- one of `receiver::receive_soft`
 pub record SoftByValue (d : SoftCall) : Type 0 where
@@ -56,10 +56,10 @@ pub record SoftByValue (d : SoftCall) : Type 0 where
 
 -- what a call in place owes: the answer, and the record in the caller's memory afterwards
 abbrev pub SoftAnswered : List ℕ → Record → List ℕ → List ℕ → ReceiveAnswer → Type 0
-SoftAnswered order given bytes confidences answer = answer ≡ (softReceive order given bytes confidences).answer
+SoftAnswered order given bytes confidences answer = answer ≡ (soft_receive order given bytes confidences).answer
 
 abbrev pub SoftLeaves : List ℕ → Record → List ℕ → List ℕ → Record → Type 0
-SoftLeaves order given bytes confidences left = left ≡ (softReceive order given bytes confidences).next
+SoftLeaves order given bytes confidences left = left ≡ (soft_receive order given bytes confidences).next
 
 -- one of `receiver::receive_soft_in_place`
 abbrev pub SoftInPlace : SoftCall → Type 0
@@ -83,8 +83,8 @@ SoftInPlaceSays = (M : Type 1) (𝓤 : Ura M) (𝓛 : Logic 𝓤) (κs : Lfts 4)
 -- what is claimed: the undamaged frame of any set that a sender takes comes back as itself in the order that it was packed in, with any 54 confidences
 -- above 0 and from any valid record
 abbrev pub SoftReturn : Type 0
-SoftReturn = (c : PackCall packKind) (way : Way) (d : SoftCall) → CodePacks c → CodeReceivesSoft way d → packCallRefusal c ≡ 0 → T (valid d.given)
-    → d.order ≡ packOrder c → d.frame ≡ sent c → length d.confidences ≡ 54 → Every (λ x. 0 < x) d.confidences → Returns c (plainly d)
+SoftReturn = (c : PackCall pack_kind) (way : Way) (d : SoftCall) → CodePacks c → CodeReceivesSoft way d → pack_call_refusal c ≡ 0 → T (valid d.given)
+    → d.order ≡ pack_order c → d.frame ≡ sent c → length d.confidences ≡ 54 → Every (λ x. 0 < x) d.confidences → Returns c (plainly d)
 
 -- and that such calls can be had: in each way, for every order, record, frame and confidences
 pub record SoftHad (way : Way) (order : List ℕ) (given : Record) (bytes confidences : List ℕ) : Type 0 where
@@ -92,5 +92,5 @@ pub record SoftHad (way : Way) (order : List ℕ) (given : Record) (bytes confid
   pub made : CodeReceivesSoft way call
   pub order_is : call.order ≡ order
   pub frame_is : call.frame ≡ bytes
-  pub confidences-are : call.confidences ≡ confidences
+  pub confidences_are : call.confidences ≡ confidences
   pub given_is : call.given ≡ given

@@ -13,10 +13,10 @@ use Rattle.codebook.specs.Rows.{all_fit}
 
 module _ (fits : ℤ → Bool) (row : List ℤ) where
   -- one entry more is tested
-  pub fit-more : (fit r : Bool) (i : ℕ) → i < length row → r ≡ fits (get_or row i (pos 0)) → fit && all_fit fits (drop i row) ≡ all_fit fits row
+  pub fit_more : (fit r : Bool) (i : ℕ) → i < length row → r ≡ fits (get_or row i (pos 0)) → fit && all_fit fits (drop i row) ≡ all_fit fits row
       → fit && r && all_fit fits (drop (i + 1) row) ≡ all_fit fits row
   unfolding all_fit
-  fit-more fit r i h e inv =
+  fit_more fit r i h e inv =
       let d : all_fit fits (drop i row) ≡ fits (get_or row i (pos 0)) && all_fit fits (drop (i + 1) row) = rw add-one (ap (all_fit fits) (drop-cons row i (pos 0) h)) in
       cc (and_assoc fit r (all_fit fits (drop (i + 1) row)))
 

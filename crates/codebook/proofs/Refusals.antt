@@ -6,18 +6,18 @@ use mathlib.Core.List.{List, []}
 use Prim.Native.Nat.{ℕ, zero, suc}
 use native.Mathlib.Omega.{arith}
 use lib.IntN.{ℤ}
-use Rattle.bits.specs.Refusals.{firstRefusal}
-use Rattle.codebook.specs.Rows.{rowUnless}
-use Rattle.codebook.specs.RowNumbers.{rowTable}
+use Rattle.bits.specs.Refusals.{first_refusal}
+use Rattle.codebook.specs.Rows.{row_unless}
+use Rattle.codebook.specs.RowNumbers.{row_table}
 
 -- where nothing is refused the row is there, the codebook is whole, and the entries fit
-pub row-taken-only : (there whole fit : Bool) → firstRefusal (rowTable there whole fit) ≡ 0 → (there ≡ true) × (whole ≡ true) × (fit ≡ true)
-row-taken-only true true true e = (refl, refl, refl)
-row-taken-only true true false e = absurd (omega arith)
-row-taken-only true false fit e = absurd (omega arith)
-row-taken-only false whole fit e = absurd (omega arith)
+pub row_taken_only : (there whole fit : Bool) → first_refusal (row_table there whole fit) ≡ 0 → (there ≡ true) × (whole ≡ true) × (fit ≡ true)
+row_taken_only true true true e = (refl, refl, refl)
+row_taken_only true true false e = absurd (omega arith)
+row_taken_only true false fit e = absurd (omega arith)
+row_taken_only false whole fit e = absurd (omega arith)
 
 -- a refused row has no numbers
-pub row-refused : (n : ℕ) (row : List ℤ) → (n ≡ 0 → ⊥) → rowUnless n row ≡ []
-row-refused zero row h = absurd (h refl)
-row-refused (suc n) row h = refl
+pub row_refused : (n : ℕ) (row : List ℤ) → (n ≡ 0 → ⊥) → row_unless n row ≡ []
+row_refused zero row h = absurd (h refl)
+row_refused (suc n) row h = refl

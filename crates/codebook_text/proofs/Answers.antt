@@ -8,18 +8,18 @@ use lib.Dec.{eqb}
 use lib.IntN.{ℤ}
 use lib.ListN.{length, drop, drop_of_length-le}
 use borrow.Author.Tests.{eq-eqb, ne_eqb}
-use Rattle.bits.specs.Refusals.{firstRefusal}
-use Rattle.codebook_text.specs.Text.{isLines, numbers, textTable, textRefusal, textAnswer, textWrites}
+use Rattle.bits.specs.Refusals.{first_refusal}
+use Rattle.codebook_text.specs.Text.{is_lines, numbers, text_table, text_refusal, text_answer, text_writes}
 use Rattle.codebook_text.specs.declared.TextAnswer.{TextAnswer}
 use Rattle.codebook_text.specs.declared.TextAnswer.TheVariants.{Filled, Refused}
 
 -- past n numbers a buffer of at most n keeps nothing
-pub drop-none : (n : ℕ) (front held : List ℤ) → length held ≤ n → front ++ drop n held ≡ front
-drop-none n front held h = rw (drop_of_length-le held h) (append-nil front)
+pub drop_none : (n : ℕ) (front held : List ℤ) → length held ≤ n → front ++ drop n held ≡ front
+drop_none n front held h = rw (drop_of_length-le held h) (append-nil front)
 
 -- a text that is not as many good lines is refused, whatever the buffer
-pub lines-refused : (size room : ℕ) (text : List ℕ) → isLines size text ≡ false → firstRefusal (textTable size text room) ≡ 6
-lines-refused size room text e = rw e (go (eqb room size))
+pub lines_refused : (size room : ℕ) (text : List ℕ) → is_lines size text ≡ false → first_refusal (text_table size text room) ≡ 6
+lines_refused size room text e = rw e (go (eqb room size))
   where
     go : (b : Bool) → cond {A = ℕ} (not b) 6 6 ≡ 6
     go true = refl
@@ -27,27 +27,27 @@ lines-refused size room text e = rw e (go (eqb room size))
 
 -- what a call answers and leaves
 abbrev pub Owed : ℕ → List ℕ → List ℤ → TextAnswer → List ℤ → Type 0
-Owed size text held r after = (r ≡ textAnswer size text (length held)) × (after ≡ textWrites size text held)
+Owed size text held r after = (r ≡ text_answer size text (length held)) × (after ≡ text_writes size text held)
 
 module _ (size : ℕ) (text : List ℕ) (held : List ℤ) where
   -- a refusal answers its number and leaves what was held
-  refused-owes : textRefusal size text (length held) ≡ 6 → Owed size text held (Refused 6) held
-  unfolding textAnswer textWrites
-  refused-owes e = (rw e refl, rw e refl)
+  refused_owes : text_refusal size text (length held) ≡ 6 → Owed size text held (Refused 6) held
+  unfolding text_answer text_writes
+  refused_owes e = (rw e refl, rw e refl)
 
   -- a buffer of another size is refused
-  pub size-owes : (length held ≡ size → ⊥) → Owed size text held (Refused 6) held
-  unfolding textRefusal
-  size-owes ne = refused-owes (rw (ne_eqb (length held) size ne) refl)
+  pub size_owes : (length held ≡ size → ⊥) → Owed size text held (Refused 6) held
+  unfolding text_refusal
+  size_owes ne = refused_owes (rw (ne_eqb (length held) size ne) refl)
 
   -- and so is a text that is not as many good lines
-  pub lines-owe : isLines size text ≡ false → Owed size text held (Refused 6) held
-  unfolding textRefusal
-  lines-owe e = refused-owes (lines-refused size (length held) text e)
+  pub lines_owe : is_lines size text ≡ false → Owed size text held (Refused 6) held
+  unfolding text_refusal
+  lines_owe e = refused_owes (lines_refused size (length held) text e)
 
   -- every other call leaves the numbers of the text
-  pub numbers_owe : length held ≡ size → isLines size text ≡ true → Owed size text held Filled (numbers (length held) text)
-  unfolding textRefusal textAnswer textWrites
+  pub numbers_owe : length held ≡ size → is_lines size text ≡ true → Owed size text held Filled (numbers (length held) text)
+  unfolding text_refusal text_answer text_writes
   numbers_owe h e =
       let t = eq-eqb (length held) size h in
-      (rw (t, e) refl, rw (t, e, h) (sym (drop-none size (numbers size text) held (omega arith))))
+      (rw (t, e) refl, rw (t, e, h) (sym (drop_none size (numbers size text) held (omega arith))))

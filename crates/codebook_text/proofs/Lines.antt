@@ -10,23 +10,23 @@ use lib.Dec.{eqb, ltb, leb-suc-suc}
 use lib.ListN.{length, get_or, take, drop, length-drop, drop_of_length-le}
 use lib.Seq.{drop-cons, drop-drop}
 use borrow.Author.Tests.{ne_eqb, lt-ltb, le-ltb, ltb-true, ltb-false}
-use Rattle.codebook_text.specs.Text.{line_of, isEnded, afterLine}
+use Rattle.codebook_text.specs.Text.{line_of, is_ended, after_line}
 
 -- a line is no longer than the text
-pub line-le : (t : List ℕ) → length (line_of t) ≤ length t
+pub line_le : (t : List ℕ) → length (line_of t) ≤ length t
 unfolding line_of
-line-le [] = omega arith
-line-le (c ∷ cs) = go (eqb c 10) (line-le cs)
+line_le [] = omega arith
+line_le (c ∷ cs) = go (eqb c 10) (line_le cs)
   where
     go : (b : Bool) → length (line_of cs) ≤ length cs → length (cond b [] (c ∷ line_of cs)) ≤ suc (length cs)
     go true h = omega arith
     go false h = omega arith
 
 -- a line is the front of its text
-pub line-front : (t : List ℕ) → take (length (line_of t)) t ≡ line_of t
+pub line_front : (t : List ℕ) → take (length (line_of t)) t ≡ line_of t
 unfolding line_of
-line-front [] = refl
-line-front (c ∷ cs) = go (eqb c 10) (line-front cs)
+line_front [] = refl
+line_front (c ∷ cs) = go (eqb c 10) (line_front cs)
   where
     go : (b : Bool) → take (length (line_of cs)) cs ≡ line_of cs
         → take (length (cond b [] (c ∷ line_of cs))) (c ∷ cs) ≡ cond b [] (c ∷ line_of cs)
@@ -34,57 +34,57 @@ line-front (c ∷ cs) = go (eqb c 10) (line-front cs)
     go false h = ap (λ (l : List ℕ). c ∷ l) h
 
 -- what follows the line comes after its length and one byte more
-pub line-rest : (t : List ℕ) → afterLine t ≡ drop (suc (length (line_of t))) t
-unfolding line_of afterLine
-line-rest [] = refl
-line-rest (c ∷ cs) = go (eqb c 10) (line-rest cs)
+pub line_rest : (t : List ℕ) → after_line t ≡ drop (suc (length (line_of t))) t
+unfolding line_of after_line
+line_rest [] = refl
+line_rest (c ∷ cs) = go (eqb c 10) (line_rest cs)
   where
-    go : (b : Bool) → afterLine cs ≡ drop (suc (length (line_of cs))) cs
-        → cond b cs (afterLine cs) ≡ drop (length (cond b [] (c ∷ line_of cs))) cs
+    go : (b : Bool) → after_line cs ≡ drop (suc (length (line_of cs))) cs
+        → cond b cs (after_line cs) ≡ drop (length (cond b [] (c ∷ line_of cs))) cs
     go true h = refl
     go false h = h
 
 -- a line is ended where it is shorter than the text
-pub line-ended : (t : List ℕ) → isEnded t ≡ ltb (length (line_of t)) (length t)
-unfolding line_of isEnded
-line-ended [] = refl
-line-ended (c ∷ cs) = go (eqb c 10) (line-ended cs)
+pub line_ended : (t : List ℕ) → is_ended t ≡ ltb (length (line_of t)) (length t)
+unfolding line_of is_ended
+line_ended [] = refl
+line_ended (c ∷ cs) = go (eqb c 10) (line_ended cs)
   where
-    go : (b : Bool) → isEnded cs ≡ ltb (length (line_of cs)) (length cs)
-        → b || isEnded cs ≡ ltb (length (cond b [] (c ∷ line_of cs))) (suc (length cs))
+    go : (b : Bool) → is_ended cs ≡ ltb (length (line_of cs)) (length cs)
+        → b || is_ended cs ≡ ltb (length (cond b [] (c ∷ line_of cs))) (suc (length cs))
     go true h = sym (lt-ltb 0 (suc (length cs)) (omega arith))
     go false h = h ∙ sym (leb-suc-suc (suc (length (line_of cs))) (length cs))
 
 -- past the end of a text the line is empty
-pub line-out : (text : List ℕ) (i : ℕ) → length text ≤ i → length (line_of (drop i text)) ≡ 0
+pub line_out : (text : List ℕ) (i : ℕ) → length text ≤ i → length (line_of (drop i text)) ≡ 0
 unfolding line_of
-line-out text i h = rw (drop_of_length-le text h) refl
+line_out text i h = rw (drop_of_length-le text h) refl
 
 module _ (text : List ℕ) (i : ℕ) (h : i < length text) where
   -- at a line end the line is empty
-  pub line-stop : get_or text i 0 ≡ 10 → length (line_of (drop i text)) ≡ 0
+  pub line_stop : get_or text i 0 ≡ 10 → length (line_of (drop i text)) ≡ 0
   unfolding line_of
-  line-stop e = rw (drop-cons text i 0 h, e) refl
+  line_stop e = rw (drop-cons text i 0 h, e) refl
 
   -- any other byte belongs to the line
-  pub line-more : (get_or text i 0 ≡ 10 → ⊥) → length (line_of (drop i text)) ≡ length (line_of (drop (i + 1) text)) + 1
+  pub line_more : (get_or text i 0 ≡ 10 → ⊥) → length (line_of (drop i text)) ≡ length (line_of (drop (i + 1) text)) + 1
   unfolding line_of
-  line-more ne = rw (add-one, add-one, drop-cons text i 0 h, ne_eqb (get_or text i 0) 10 ne) refl
+  line_more ne = rw (add-one, add-one, drop-cons text i 0 h, ne_eqb (get_or text i 0) 10 ne) refl
 
 module _ (text : List ℕ) (at e : ℕ) (end : e ≡ at + length (line_of (drop at text))) where
   -- the bytes from the start of a line to its end are the line
-  pub part-line : take (e - at) (drop at text) ≡ line_of (drop at text)
-  part-line = rw (end, add-sub_cancel_left) (line-front (drop at text))
+  pub part_line : take (e - at) (drop at text) ≡ line_of (drop at text)
+  part_line = rw (end, add-sub_cancel_left) (line_front (drop at text))
 
   -- the next line starts one past the end
-  pub part-rest : drop (e + 1) text ≡ afterLine (drop at text)
-  part-rest =
+  pub part_rest : drop (e + 1) text ≡ after_line (drop at text)
+  part_rest =
       let next : e + 1 ≡ at + suc (length (line_of (drop at text))) = omega arith in
-      rw (line-rest, drop-drop) (ap (λ (k : ℕ). drop k text) next)
+      rw (line_rest, drop-drop) (ap (λ (k : ℕ). drop k text) next)
 
   -- the line is ended where its end is not the end of the text
-  pub part-ended : at ≤ length text → isEnded (drop at text) ≡ ltb e (length text)
-  part-ended h = line-ended (drop at text) ∙ go (ltb e (length text)) refl
+  pub part_ended : at ≤ length text → is_ended (drop at text) ≡ ltb e (length text)
+  part_ended h = line_ended (drop at text) ∙ go (ltb e (length text)) refl
     where
       go : (b : Bool) → ltb e (length text) ≡ b → ltb (length (line_of (drop at text))) (length (drop at text)) ≡ b
       go true f = lt-ltb (length (line_of (drop at text))) _ (omega (arith, ltb-true e (length text) f, length-drop at text))

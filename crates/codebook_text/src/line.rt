@@ -1,10 +1,10 @@
 // A line of a codebook's text, without its end: a sign and digits.
 ghost use Rattle.std.specs.Prelude.{◌≡◌, true, ◌<◌};
-ghost use Rattle.codebook_text.specs.Text.{isNegative, unsigned, isDigit, allDigits, isDigits, digitsValue, isNumber, number_of};
+ghost use Rattle.codebook_text.specs.Text.{is_negative, unsigned, is_digit, all_digits, is_digits, digits_value, is_number, number_of};
 
 // Whether a line, without its end, is good. Its value is asked for only after a minus.
 pub(crate) fn is_number(line: &[u8]) -> bool
-    ensures { result ≡ isNumber line.now }
+    ensures { result ≡ is_number line.now }
 {
     let digits = unsigned_part(line);
     if is_digits(digits) {
@@ -18,7 +18,7 @@ pub(crate) fn is_number(line: &[u8]) -> bool
 
 // The number of a good line.
 pub(crate) fn number(line: &[u8]) -> i64
-    requires { isNumber line.now ≡ true }
+    requires { is_number line.now ≡ true }
     ensures { result ≡ number_of line.now }
 {
     let size = digits_value(unsigned_part(line)) as i64;
@@ -27,7 +27,7 @@ pub(crate) fn number(line: &[u8]) -> i64
 
 // Whether a line starts with a minus.
 fn is_negative(line: &[u8]) -> bool
-    ensures { result ≡ isNegative line.now }
+    ensures { result ≡ is_negative line.now }
 {
     if line.len() == 0 {
         return false;
@@ -44,14 +44,14 @@ fn unsigned_part(line: &[u8]) -> &[u8]
 
 // One to ten digits and nothing else.
 fn is_digits(digits: &[u8]) -> bool
-    ensures { result ≡ isDigits digits.now }
+    ensures { result ≡ is_digits digits.now }
 {
     (1 <= digits.len()) & (digits.len() <= 10) & all_digits(digits)
 }
 
 // Nothing but digits.
 fn all_digits(digits: &[u8]) -> bool
-    ensures { result ≡ allDigits digits.now }
+    ensures { result ≡ all_digits digits.now }
 {
     for i in 0..digits.len() {
         if !is_digit(digits[i]) {
@@ -63,15 +63,15 @@ fn all_digits(digits: &[u8]) -> bool
 
 // One digit.
 fn is_digit(c: u8) -> bool
-    ensures { result ≡ isDigit c }
+    ensures { result ≡ is_digit c }
 {
     (b'0' <= c) & (c <= b'9')
 }
 
 // The value of one to ten digits, the most significant first.
 fn digits_value(digits: &[u8]) -> u64
-    requires { isDigits digits.now ≡ true }
-    ensures equal { result ≡ digitsValue digits.now }
+    requires { is_digits digits.now ≡ true }
+    ensures equal { result ≡ digits_value digits.now }
     ensures bound { result < 10000000000 }
 {
     let mut value: u64 = 0;

@@ -1,31 +1,31 @@
 // A codebook from its text form: one whole number a line. The text is checked as a whole before the first number is
 // written, so that a refused text leaves the buffer as it was.
 ghost use Rattle.std.specs.Prelude.{◌≡◌, true, ◌+◌, ◌≤◌, length, drop};
-ghost use Rattle.codebook_text.specs.Text.{line_of, isLines, numbers, textAnswer, textWrites};
+ghost use Rattle.codebook_text.specs.Text.{line_of, is_lines, numbers, text_answer, text_writes};
 
 use crate::TextAnswer;
 use crate::line::{is_number, number};
 
 // The LSF codebook (MIL-STD-3005, 5.3.4) from its text, 3,200 lines. Refused: 6, a buffer of another size or any other text.
 pub fn read_lsf(text: &[u8], codebook: &mut [i64]) -> TextAnswer
-    ensures answer { result ≡ textAnswer 3200 text.now (length codebook.old) }
-    ensures written { codebook.new ≡ textWrites 3200 text.now codebook.old }
+    ensures answer { result ≡ text_answer 3200 text.now (length codebook.old) }
+    ensures written { codebook.new ≡ text_writes 3200 text.now codebook.old }
 {
     read(text, codebook, 3200)
 }
 
 // The codebook of magnitudes (5.3.5) from its text, 2,560 lines. Refused: 6, a buffer of another size or any other text.
 pub fn read_magnitudes(text: &[u8], codebook: &mut [i64]) -> TextAnswer
-    ensures answer { result ≡ textAnswer 2560 text.now (length codebook.old) }
-    ensures written { codebook.new ≡ textWrites 2560 text.now codebook.old }
+    ensures answer { result ≡ text_answer 2560 text.now (length codebook.old) }
+    ensures written { codebook.new ≡ text_writes 2560 text.now codebook.old }
 {
     read(text, codebook, 2560)
 }
 
 // A codebook of `size` numbers.
 fn read(text: &[u8], codebook: &mut [i64], size: usize) -> TextAnswer
-    ensures answer { result ≡ textAnswer size text.now (length codebook.old) }
-    ensures written { codebook.new ≡ textWrites size text.now codebook.old }
+    ensures answer { result ≡ text_answer size text.now (length codebook.old) }
+    ensures written { codebook.new ≡ text_writes size text.now codebook.old }
 {
     if codebook.len() != size {
         return TextAnswer::Refused(6);
@@ -39,7 +39,7 @@ fn read(text: &[u8], codebook: &mut [i64], size: usize) -> TextAnswer
 
 // Whether a text is `n` good lines, each ended, and nothing more.
 fn is_lines(text: &[u8], n: usize) -> bool
-    ensures { result ≡ isLines n text.now }
+    ensures { result ≡ is_lines n text.now }
 {
     let mut at = 0;
     for i in 0..n {
@@ -57,7 +57,7 @@ fn is_lines(text: &[u8], n: usize) -> bool
 
 // The numbers of a text that has a good line for each place of the buffer.
 fn fill(text: &[u8], codebook: &mut [i64])
-    requires { isLines (length codebook.old) text.now ≡ true }
+    requires { is_lines (length codebook.old) text.now ≡ true }
     ensures { codebook.new ≡ numbers (length codebook.old) text.now }
 {
     let mut at = 0;

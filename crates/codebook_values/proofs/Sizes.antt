@@ -12,67 +12,67 @@ use mir.Syntax.{w64}
 use mir.Val.{SFits, to_z, of_z}
 use mir.ValLaws.{to_z-of_z}
 use borrow.Author.Tests.{ltb-true, leb-true}
-use Rattle.codebook.specs.Rows.{lsfFits}
+use Rattle.codebook.specs.Rows.{lsf_fits}
 use Rattle.codebook_values.specs.Values.{larger, smaller}
-use Rattle.codebook_values.proofs.Extremes.{test-cases}
+use Rattle.codebook_values.proofs.Extremes.{test_cases}
 
 -- the size that a width's range is told by
-mag-le : (z : ℤ) → mag z ≤ nat_abs z
-mag-le (pos n) = le_refl n
-mag-le (negsuc n) = omega arith
+mag_le : (z : ℤ) → mag z ≤ nat_abs z
+mag_le (pos n) = le_refl n
+mag_le (negsuc n) = omega arith
 
 -- a number whose size is below the half of the type's range
-pub abs-fits : (z : ℤ) → nat_abs z < 2 ^ 63 → SFits w64 z
-abs-fits z h = record { sfits = omega (arith, mag-le z) }
+pub abs_fits : (z : ℤ) → nat_abs z < 2 ^ 63 → SFits w64 z
+abs_fits z h = record { sfits = omega (arith, mag_le z) }
 
 -- a number that the type holds is read back from its bits
-pub number-back : (z : ℤ) → mag z < 2 ^ 63 → to_z w64 (of_z w64 z) ≡ z
-number-back z h = to_z-of_z w64 z (record { sfits = h })
+pub number_back : (z : ℤ) → mag z < 2 ^ 63 → to_z w64 (of_z w64 z) ≡ z
+number_back z h = to_z-of_z w64 z (record { sfits = h })
 
 -- and a test of two such numbers is one of what is read back
 pub test_back : {x y : ℤ} {t : Bool} → SFits w64 x → SFits w64 y → lt_z (to_z w64 (of_z w64 x)) (to_z w64 (of_z w64 y)) ≡ t → lt_z x y ≡ t
 test_back hx hy e = simp (to_z-of_z w64 _ hx, to_z-of_z w64 _ hy) at e
 
 -- the size of a difference of two naturals
-sub-abs-le : (a b : ℕ) → nat_abs (sub_ℕ a b) ≤ a + b
-sub-abs-le a b = go (ltb a b) refl
+sub_abs_le : (a b : ℕ) → nat_abs (sub_ℕ a b) ≤ a + b
+sub_abs_le a b = go (ltb a b) refl
   where
     go : (t : Bool) → ltb a b ≡ t → nat_abs (cond t (negsuc (b - suc a)) (pos (a - b))) ≤ a + b
     go true e = omega (arith, ltb-true a b e)
     go false e = omega arith
 
 -- a sum is at most as large as both numbers together
-pub abs-add-le : (x y : ℤ) → nat_abs (x +ℤ y) ≤ nat_abs x + nat_abs y
-abs-add-le (pos a) (pos b) = omega arith
-abs-add-le (pos a) (negsuc b) = sub-abs-le a (suc b)
-abs-add-le (negsuc a) (pos b) = omega (arith, sub-abs-le b (suc a))
-abs-add-le (negsuc a) (negsuc b) = omega arith
+pub abs_add_le : (x y : ℤ) → nat_abs (x +ℤ y) ≤ nat_abs x + nat_abs y
+abs_add_le (pos a) (pos b) = omega arith
+abs_add_le (pos a) (negsuc b) = sub_abs_le a (suc b)
+abs_add_le (negsuc a) (pos b) = omega (arith, sub_abs_le b (suc a))
+abs_add_le (negsuc a) (negsuc b) = omega arith
 
 -- the larger of two numbers has the size of one of them
-pub abs-larger-le : (x y : ℤ) (n : ℕ) → nat_abs x ≤ n → nat_abs y ≤ n → nat_abs (larger x y) ≤ n
-abs-larger-le x y n hx hy = test-cases (λ z. nat_abs z ≤ n) x y y x (λ h. hy) (λ h. hx)
+pub abs_larger_le : (x y : ℤ) (n : ℕ) → nat_abs x ≤ n → nat_abs y ≤ n → nat_abs (larger x y) ≤ n
+abs_larger_le x y n hx hy = test_cases (λ z. nat_abs z ≤ n) x y y x (λ h. hy) (λ h. hx)
 
 -- of two numbers that are not negative the larger has the larger size
-abs-le : (x y : ℤ) → pos 0 ≤ℤ x → x ≤ℤ y → nat_abs x ≤ nat_abs y
-abs-le (pos x) (pos y) h k = leb→le x y k.le
-abs-le (pos x) (negsuc y) h k = absurd k.le
-abs-le (negsuc x) y h k = absurd h.le
+abs_le : (x y : ℤ) → pos 0 ≤ℤ x → x ≤ℤ y → nat_abs x ≤ nat_abs y
+abs_le (pos x) (pos y) h k = leb→le x y k.le
+abs_le (pos x) (negsuc y) h k = absurd k.le
+abs_le (negsuc x) y h k = absurd h.le
 
 -- the smaller of two numbers of which the first is not negative is at most as large as the second
-pub abs-smaller-le : (x most : ℤ) → pos 0 ≤ℤ x → nat_abs (smaller x most) ≤ nat_abs most
-abs-smaller-le x most h = test-cases (λ z. nat_abs z ≤ nat_abs most) most x most x (λ t. le_refl (nat_abs most)) (abs-le x most h)
+pub abs_smaller_le : (x most : ℤ) → pos 0 ≤ℤ x → nat_abs (smaller x most) ≤ nat_abs most
+abs_smaller_le x most h = test_cases (λ z. nat_abs z ≤ nat_abs most) most x most x (λ t. le_refl (nat_abs most)) (abs_le x most h)
 
 -- an LSF entry within its limit
-pub lsf-abs-le : (z : ℤ) → lsfFits z ≡ true → nat_abs z ≤ 4000000000
-lsf-abs-le (pos n) e = leb-true n 4000000000 e
-lsf-abs-le (negsuc n) e = omega (arith, leb-true n 3999999999 ((and-eq-true_iff _ true).0 e).0)
+pub lsf_abs_le : (z : ℤ) → lsf_fits z ≡ true → nat_abs z ≤ 4000000000
+lsf_abs_le (pos n) e = leb-true n 4000000000 e
+lsf_abs_le (negsuc n) e = omega (arith, leb-true n 3999999999 ((and-eq-true_iff _ true).0 e).0)
 
 -- four entries within the limit add up to at most 16,000,000,000 on either side of 0
-pub four-abs-le : (a b c d : ℤ) → lsfFits a ≡ true → lsfFits b ≡ true → lsfFits c ≡ true → lsfFits d ≡ true
+pub four_abs_le : (a b c d : ℤ) → lsf_fits a ≡ true → lsf_fits b ≡ true → lsf_fits c ≡ true → lsf_fits d ≡ true
     → nat_abs (a +ℤ b +ℤ c +ℤ d) ≤ 16000000000
-four-abs-le a b c d ha hb hc hd =
-    omega (arith, lsf-abs-le a ha, lsf-abs-le b hb, lsf-abs-le c hc, lsf-abs-le d hd, abs-add-le a b, abs-add-le (a +ℤ b) c, abs-add-le (a +ℤ b +ℤ c) d)
+four_abs_le a b c d ha hb hc hd =
+    omega (arith, lsf_abs_le a ha, lsf_abs_le b hb, lsf_abs_le c hc, lsf_abs_le d hd, abs_add_le a b, abs_add_le (a +ℤ b) c, abs_add_le (a +ℤ b +ℤ c) d)
 
 -- such an entry is read back from its bits
-pub lsf-back : (z : ℤ) → lsfFits z ≡ true → to_z w64 (of_z w64 z) ≡ z
-lsf-back z e = to_z-of_z w64 z (abs-fits z (omega (arith, lsf-abs-le z e)))
+pub lsf_back : (z : ℤ) → lsf_fits z ≡ true → to_z w64 (of_z w64 z) ≡ z
+lsf_back z e = to_z-of_z w64 z (abs_fits z (omega (arith, lsf_abs_le z e)))

@@ -10,48 +10,48 @@ use lib.ListN.{length, get_or}
 use lib.Signed.{◌≤ℤ◌}
 use Rattle.codebook_values.specs.Values.{larger, spacing, raised}
 use Rattle.codebook_values.specs.Spacing.{Spaced}
-use Rattle.codebook_values.proofs.Order.{add-le, le_trans}
-use Rattle.codebook_values.proofs.Extremes.{larger-le, larger-kept}
+use Rattle.codebook_values.proofs.Order.{add_le, le_trans}
+use Rattle.codebook_values.proofs.Extremes.{larger_le, larger_kept}
 
 -- raised values are spaced
-pub raised-spaced : (least : ℤ) (xs : List ℤ) → Spaced least (raised least xs)
+pub raised_spaced : (least : ℤ) (xs : List ℤ) → Spaced least (raised least xs)
 unfolding Spaced raised
-raised-spaced least [] = tt
-raised-spaced least (x ∷ xs) = (larger-le x least, raised-spaced (larger x least +ℤ spacing) xs)
+raised_spaced least [] = tt
+raised_spaced least (x ∷ xs) = (larger_le x least, raised_spaced (larger x least +ℤ spacing) xs)
 
 -- spaced values stay as they are
-pub spaced-kept : (least : ℤ) (xs : List ℤ) → Spaced least xs → raised least xs ≡ xs
+pub spaced_kept : (least : ℤ) (xs : List ℤ) → Spaced least xs → raised least xs ≡ xs
 unfolding Spaced raised
-spaced-kept least [] h = refl
-spaced-kept least (x ∷ xs) h =
-    let y = larger-kept x least h.0 in
-    ap (λ (z : ℤ). z ∷ raised (z +ℤ spacing) xs) y ∙ ap (λ (zs : List ℤ). x ∷ zs) (spaced-kept (x +ℤ spacing) xs h.1)
+spaced_kept least [] h = refl
+spaced_kept least (x ∷ xs) h =
+    let y = larger_kept x least h.0 in
+    ap (λ (z : ℤ). z ∷ raised (z +ℤ spacing) xs) y ∙ ap (λ (zs : List ℤ). x ∷ zs) (spaced_kept (x +ℤ spacing) xs h.1)
 
 -- less may be asked of the first
-pub spaced-weaker : {least more : ℤ} (xs : List ℤ) → least ≤ℤ more → Spaced more xs → Spaced least xs
+pub spaced_weaker : {least more : ℤ} (xs : List ℤ) → least ≤ℤ more → Spaced more xs → Spaced least xs
 unfolding Spaced
-spaced-weaker [] h s = tt
-spaced-weaker (x ∷ xs) h s = (le_trans h s.0, s.1)
+spaced_weaker [] h s = tt
+spaced_weaker (x ∷ xs) h s = (le_trans h s.0, s.1)
 
 -- each is at least what is asked of the first
-pub spaced-from : (least : ℤ) (xs : List ℤ) (i : ℕ) → i < length xs → Spaced least xs → least ≤ℤ get_or xs i (pos 0)
+pub spaced_from : (least : ℤ) (xs : List ℤ) (i : ℕ) → i < length xs → Spaced least xs → least ≤ℤ get_or xs i (pos 0)
 unfolding Spaced
-spaced-from least [] i h s = absurd (not-suc-le-zero h)
-spaced-from least (x ∷ xs) zero h s = s.0
-spaced-from least (x ∷ xs) (suc i) h s =
-    le_trans s.0 (le_trans (add-le x 50000000) (spaced-from (x +ℤ spacing) xs i (le_of_suc-le-suc h) s.1))
+spaced_from least [] i h s = absurd (not-suc-le-zero h)
+spaced_from least (x ∷ xs) zero h s = s.0
+spaced_from least (x ∷ xs) (suc i) h s =
+    le_trans s.0 (le_trans (add_le x 50000000) (spaced_from (x +ℤ spacing) xs i (le_of_suc-le-suc h) s.1))
 
 -- each next is at least the one before plus 50 Hz
-pub spaced-apart : (least : ℤ) (xs : List ℤ) (i : ℕ) → suc i < length xs → Spaced least xs → (get_or xs i (pos 0) +ℤ spacing) ≤ℤ get_or xs (suc i) (pos 0)
+pub spaced_apart : (least : ℤ) (xs : List ℤ) (i : ℕ) → suc i < length xs → Spaced least xs → (get_or xs i (pos 0) +ℤ spacing) ≤ℤ get_or xs (suc i) (pos 0)
 unfolding Spaced
-spaced-apart least [] i h s = absurd (not-suc-le-zero h)
-spaced-apart least (x ∷ xs) zero h s = spaced-from (x +ℤ spacing) xs 0 (le_of_suc-le-suc h) s.1
-spaced-apart least (x ∷ xs) (suc i) h s = spaced-apart (x +ℤ spacing) xs i (le_of_suc-le-suc h) s.1
+spaced_apart least [] i h s = absurd (not-suc-le-zero h)
+spaced_apart least (x ∷ xs) zero h s = spaced_from (x +ℤ spacing) xs 0 (le_of_suc-le-suc h) s.1
+spaced_apart least (x ∷ xs) (suc i) h s = spaced_apart (x +ℤ spacing) xs i (le_of_suc-le-suc h) s.1
 
 -- and values of which both hold are spaced
-pub apart-spaced : (least : ℤ) (xs : List ℤ) → ((i : ℕ) → suc i < length xs → (get_or xs i (pos 0) +ℤ spacing) ≤ℤ get_or xs (suc i) (pos 0))
+pub apart_spaced : (least : ℤ) (xs : List ℤ) → ((i : ℕ) → suc i < length xs → (get_or xs i (pos 0) +ℤ spacing) ≤ℤ get_or xs (suc i) (pos 0))
     → (0 < length xs → least ≤ℤ get_or xs 0 (pos 0)) → Spaced least xs
 unfolding Spaced
-apart-spaced least [] apart first = tt
-apart-spaced least (x ∷ xs) apart first =
-    (first (omega arith), apart-spaced (x +ℤ spacing) xs (λ i h. apart (suc i) (suc-le-suc h)) (λ h. apart 0 (suc-le-suc h)))
+apart_spaced least [] apart first = tt
+apart_spaced least (x ∷ xs) apart first =
+    (first (omega arith), apart_spaced (x +ℤ spacing) xs (λ i h. apart (suc i) (suc-le-suc h)) (λ h. apart 0 (suc-le-suc h)))

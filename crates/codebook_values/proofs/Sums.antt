@@ -9,68 +9,68 @@ use native.Mathlib.Omega.{arith}
 use lib.ListN.{length, get_or}
 use lib.IntN.{ℤ, pos, negsuc, nat_abs, ◌+ℤ◌}
 use borrow.Author.Tests.{le-leb}
-use Rattle.codebook.specs.Rows.{lsfFits, all_fit}
-use Rattle.codebook_values.specs.Values.{added, addedFour, rowsFit}
-use Rattle.codebook_values.specs.Spacing.{sumFits}
-use Rattle.codebook_values.proofs.FourRows.{and-four}
-use Rattle.codebook_values.proofs.Sizes.{four-abs-le}
+use Rattle.codebook.specs.Rows.{lsf_fits, all_fit}
+use Rattle.codebook_values.specs.Values.{added, added_four, rows_fit}
+use Rattle.codebook_values.specs.Spacing.{sum_fits}
+use Rattle.codebook_values.proofs.FourRows.{and_four}
+use Rattle.codebook_values.proofs.Sizes.{four_abs_le}
 
 -- two rows of n numbers
-added-length : (n : ℕ) (xs ys : List ℤ) → length xs ≡ n → length ys ≡ n → length (added xs ys) ≡ n
+added_length : (n : ℕ) (xs ys : List ℤ) → length xs ≡ n → length ys ≡ n → length (added xs ys) ≡ n
 unfolding added
-added-length n [] ys hx hy = hx
-added-length n (x ∷ xs) [] hx hy = hy
-added-length zero (x ∷ xs) (y ∷ ys) hx hy = absurd (omega arith)
-added-length (suc n) (x ∷ xs) (y ∷ ys) hx hy = ap suc (added-length n xs ys (omega arith) (omega arith))
+added_length n [] ys hx hy = hx
+added_length n (x ∷ xs) [] hx hy = hy
+added_length zero (x ∷ xs) (y ∷ ys) hx hy = absurd (omega arith)
+added_length (suc n) (x ∷ xs) (y ∷ ys) hx hy = ap suc (added_length n xs ys (omega arith) (omega arith))
 
 -- four rows of n numbers
-pub four-length : (n : ℕ) (a b c d : List ℤ) → length a ≡ n → length b ≡ n → length c ≡ n → length d ≡ n → length (addedFour a b c d) ≡ n
-four-length n a b c d ha hb hc hd =
-    let ab = added-length n a b ha hb in
-    added-length n (added (added a b) c) d (added-length n (added a b) c ab hc) hd
+pub four_length : (n : ℕ) (a b c d : List ℤ) → length a ≡ n → length b ≡ n → length c ≡ n → length d ≡ n → length (added_four a b c d) ≡ n
+four_length n a b c d ha hb hc hd =
+    let ab = added_length n a b ha hb in
+    added_length n (added (added a b) c) d (added_length n (added a b) c ab hc) hd
 
 -- a place that both rows have
-added-lt : (xs ys : List ℤ) (i : ℕ) → i < length xs → i < length ys → i < length (added xs ys)
+added_lt : (xs ys : List ℤ) (i : ℕ) → i < length xs → i < length ys → i < length (added xs ys)
 unfolding added
-added-lt [] ys i hx hy = hx
-added-lt (x ∷ xs) [] i hx hy = hy
-added-lt (x ∷ xs) (y ∷ ys) zero hx hy = omega arith
-added-lt (x ∷ xs) (y ∷ ys) (suc i) hx hy = omega (arith, added-lt xs ys i (le_of_suc-le-suc hx) (le_of_suc-le-suc hy))
+added_lt [] ys i hx hy = hx
+added_lt (x ∷ xs) [] i hx hy = hy
+added_lt (x ∷ xs) (y ∷ ys) zero hx hy = omega arith
+added_lt (x ∷ xs) (y ∷ ys) (suc i) hx hy = omega (arith, added_lt xs ys i (le_of_suc-le-suc hx) (le_of_suc-le-suc hy))
 
 -- the entry there
-added-at : (xs ys : List ℤ) (i : ℕ) → i < length xs → i < length ys → get_or (added xs ys) i (pos 0) ≡ get_or xs i (pos 0) +ℤ get_or ys i (pos 0)
+added_at : (xs ys : List ℤ) (i : ℕ) → i < length xs → i < length ys → get_or (added xs ys) i (pos 0) ≡ get_or xs i (pos 0) +ℤ get_or ys i (pos 0)
 unfolding added
-added-at [] ys i hx hy = absurd (not-suc-le-zero hx)
-added-at (x ∷ xs) [] i hx hy = absurd (not-suc-le-zero hy)
-added-at (x ∷ xs) (y ∷ ys) zero hx hy = refl
-added-at (x ∷ xs) (y ∷ ys) (suc i) hx hy = added-at xs ys i (le_of_suc-le-suc hx) (le_of_suc-le-suc hy)
+added_at [] ys i hx hy = absurd (not-suc-le-zero hx)
+added_at (x ∷ xs) [] i hx hy = absurd (not-suc-le-zero hy)
+added_at (x ∷ xs) (y ∷ ys) zero hx hy = refl
+added_at (x ∷ xs) (y ∷ ys) (suc i) hx hy = added_at xs ys i (le_of_suc-le-suc hx) (le_of_suc-le-suc hy)
 
 -- the entry of four rows added
-pub four-at : (a b c d : List ℤ) (i : ℕ) → i < length a → i < length b → i < length c → i < length d
-    → get_or (addedFour a b c d) i (pos 0) ≡ get_or a i (pos 0) +ℤ get_or b i (pos 0) +ℤ get_or c i (pos 0) +ℤ get_or d i (pos 0)
-four-at a b c d i ha hb hc hd =
-    let ab = added-lt a b i ha hb in
-    let abc = added-lt (added a b) c i ab hc in
-    added-at (added (added a b) c) d i abc hd
-    ∙ ap (λ (z : ℤ). z +ℤ get_or d i (pos 0)) (added-at (added a b) c i ab hc ∙ ap (λ (z : ℤ). z +ℤ get_or c i (pos 0)) (added-at a b i ha hb))
+pub four_at : (a b c d : List ℤ) (i : ℕ) → i < length a → i < length b → i < length c → i < length d
+    → get_or (added_four a b c d) i (pos 0) ≡ get_or a i (pos 0) +ℤ get_or b i (pos 0) +ℤ get_or c i (pos 0) +ℤ get_or d i (pos 0)
+four_at a b c d i ha hb hc hd =
+    let ab = added_lt a b i ha hb in
+    let abc = added_lt (added a b) c i ab hc in
+    added_at (added (added a b) c) d i abc hd
+    ∙ ap (λ (z : ℤ). z +ℤ get_or d i (pos 0)) (added_at (added a b) c i ab hc ∙ ap (λ (z : ℤ). z +ℤ get_or c i (pos 0)) (added_at a b i ha hb))
 
 -- a size within the bound
-sum_fits : (z : ℤ) → nat_abs z ≤ 16000000000 → sumFits z ≡ true
-sum_fits (pos n) h = le-leb n 16000000000 h
-sum_fits (negsuc n) h = rw (le-leb n 15999999999 (omega arith)) refl
+sum_fits_lem : (z : ℤ) → nat_abs z ≤ 16000000000 → sum_fits z ≡ true
+sum_fits_lem (pos n) h = le-leb n 16000000000 h
+sum_fits_lem (negsuc n) h = rw (le-leb n 15999999999 (omega arith)) refl
 
 -- every sum of four rows within the limit
-pub sums-fits : (a b c d : List ℤ) → rowsFit a b c d ≡ true → all_fit sumFits (addedFour a b c d) ≡ true
+pub sums_fits : (a b c d : List ℤ) → rows_fit a b c d ≡ true → all_fit sum_fits (added_four a b c d) ≡ true
 unfolding all_fit added
-sums-fits [] b c d h = refl
-sums-fits (w ∷ a) [] c d h = refl
-sums-fits (w ∷ a) (x ∷ b) [] d h = refl
-sums-fits (w ∷ a) (x ∷ b) (y ∷ c) [] h = refl
-sums-fits (w ∷ a) (x ∷ b) (y ∷ c) (z ∷ d) h =
-    let e = and-four (all_fit lsfFits (w ∷ a)) (all_fit lsfFits (x ∷ b)) (all_fit lsfFits (y ∷ c)) (all_fit lsfFits (z ∷ d)) h in
-    let ew = (and-eq-true_iff (lsfFits w) (all_fit lsfFits a)).0 e.0 in
-    let ex = (and-eq-true_iff (lsfFits x) (all_fit lsfFits b)).0 e.1 in
-    let ey = (and-eq-true_iff (lsfFits y) (all_fit lsfFits c)).0 e.2 in
-    let ez = (and-eq-true_iff (lsfFits z) (all_fit lsfFits d)).0 e.3 in
-    let here = sum_fits (w +ℤ x +ℤ y +ℤ z) (four-abs-le w x y z ew.0 ex.0 ey.0 ez.0) in
-    rw (here, sums-fits a b c d (rw (ew.1, ex.1, ey.1, ez.1) refl)) refl
+sums_fits [] b c d h = refl
+sums_fits (w ∷ a) [] c d h = refl
+sums_fits (w ∷ a) (x ∷ b) [] d h = refl
+sums_fits (w ∷ a) (x ∷ b) (y ∷ c) [] h = refl
+sums_fits (w ∷ a) (x ∷ b) (y ∷ c) (z ∷ d) h =
+    let e = and_four (all_fit lsf_fits (w ∷ a)) (all_fit lsf_fits (x ∷ b)) (all_fit lsf_fits (y ∷ c)) (all_fit lsf_fits (z ∷ d)) h in
+    let ew = (and-eq-true_iff (lsf_fits w) (all_fit lsf_fits a)).0 e.0 in
+    let ex = (and-eq-true_iff (lsf_fits x) (all_fit lsf_fits b)).0 e.1 in
+    let ey = (and-eq-true_iff (lsf_fits y) (all_fit lsf_fits c)).0 e.2 in
+    let ez = (and-eq-true_iff (lsf_fits z) (all_fit lsf_fits d)).0 e.3 in
+    let here = sum_fits_lem (w +ℤ x +ℤ y +ℤ z) (four_abs_le w x y z ew.0 ex.0 ey.0 ez.0) in
+    rw (here, sums_fits a b c d (rw (ew.1, ex.1, ey.1, ez.1) refl)) refl

@@ -3,7 +3,7 @@
 use Rattle.std.specs.Prelude.{ℕ, ◌+◌, ◌<◌, ◌≡◌, Bool, true, List, [], ◌∷◌, ℤ, pos, neg_ℤ, ◌+ℤ◌, length, get_or, take, ◌≤ℤ◌}
 use Rattle.sets.specs.declared.ParameterSet.{ParameterSet}
 use Rattle.codebook.specs.Rows.{between, all_fit}
-use Rattle.codebook_values.specs.Values.{addedFour, spacing, raised, highest, lowered, rowsValues, rowsFit, lsfAnswer, lsfWrites}
+use Rattle.codebook_values.specs.Values.{added_four, spacing, raised, highest, lowered, rows_values, rows_fit, lsf_answer, lsf_writes}
 use Rattle.codebook_values.specs.declared.ValuesAnswer.TheVariants.{Written}
 
 -- values of which the first is at least `least`, and each next at least the one before plus 50 Hz: what raising gives
@@ -15,21 +15,21 @@ Spaced least (x ∷ xs) = (least ≤ℤ x) × Spaced (x +ℤ spacing) xs
 pub record InBand (values : List ℤ) : Type 0 where
   pub ten : length values ≡ 10
   pub apart : (i : ℕ) → i + 1 < 10 → (get_or values i (pos 0) +ℤ pos 50000000) ≤ℤ get_or values (i + 1) (pos 0)
-  pub from-50 : (i : ℕ) → i < 10 → pos 50000000 ≤ℤ get_or values i (pos 0)
-  pub to-3950 : (i : ℕ) → i < 10 → get_or values i (pos 0) ≤ℤ pos 3950000000
+  pub from_50 : (i : ℕ) → i < 10 → pos 50000000 ≤ℤ get_or values i (pos 0)
+  pub to_3950 : (i : ℕ) → i < 10 → get_or values i (pos 0) ≤ℤ pos 3950000000
 
 -- within 16,000,000,000 of 0, four times the limit of an entry
-abbrev pub sumFits : ℤ → Bool
-sumFits = between (neg_ℤ (pos 16000000000)) (pos 16000000000)
+abbrev pub sum_fits : ℤ → Bool
+sum_fits = between (neg_ℤ (pos 16000000000)) (pos 16000000000)
 
 -- what holds for any codebook and set
 pub record LsfSpacing : Type 0 where
   -- a call that is not refused leaves such values in front of its output
-  pub written : (set : ParameterSet) (codebook out : List ℤ) → lsfAnswer set codebook (length out) ≡ Written
-      → InBand (take 10 (lsfWrites set codebook out))
+  pub written : (set : ParameterSet) (codebook out : List ℤ) → lsf_answer set codebook (length out) ≡ Written
+      → InBand (take 10 (lsf_writes set codebook out))
   -- sums that are so already stay as they are
-  pub kept : (a b c d : List ℤ) → InBand (addedFour a b c d) → rowsValues a b c d ≡ addedFour a b c d
+  pub kept : (a b c d : List ℤ) → InBand (added_four a b c d) → rows_values a b c d ≡ added_four a b c d
   -- and where they are so once raised, nothing is lowered
-  pub raised-kept : (sums : List ℤ) → InBand (raised spacing sums) → lowered highest (raised spacing sums) ≡ raised spacing sums
+  pub raised_kept : (sums : List ℤ) → InBand (raised spacing sums) → lowered highest (raised spacing sums) ≡ raised spacing sums
   -- sums of four rows whose entries fit stay within 16,000,000,000
-  pub bounded : (a b c d : List ℤ) → rowsFit a b c d ≡ true → all_fit sumFits (addedFour a b c d) ≡ true
+  pub bounded : (a b c d : List ℤ) → rows_fit a b c d ≡ true → all_fit sum_fits (added_four a b c d) ≡ true

@@ -2,13 +2,13 @@
 -- answers and leaves. LSF values are those of MIL-STD-3005, 5.3.4, magnitudes those of 5.3.5.
 use Rattle.std.specs.Prelude.{ℕ, zero, suc, Bool, true, not, ◌&&◌, cond, List, [], ◌∷◌, ltb, eqb, length, replicate, ℤ, pos, ◌+ℤ◌, ◌-ℤ◌}
 use Rattle.std.specs.Int.Signed.{lt_z}
-use Rattle.bits.specs.Lists.{writtenUnless}
-use Rattle.bits.specs.Refusals.{Table, firstRefusal}
-use Rattle.sets.specs.Sets.{indicesIn, in_range}
+use Rattle.bits.specs.Lists.{written_unless}
+use Rattle.bits.specs.Refusals.{Table, first_refusal}
+use Rattle.sets.specs.Sets.{indices_in, in_range}
 use Rattle.sets.specs.declared.Indices.{Indices}
 use Rattle.sets.specs.declared.ParameterSet.{ParameterSet}
 use Rattle.sets.specs.declared.ParameterSet.TheVariants.{Unvoiced, Voiced}
-use Rattle.codebook.specs.Rows.{lsfSize, magnitudeSize, lsfRow, magnitudeRow, lsfFits, magnitudeFits, all_fit}
+use Rattle.codebook.specs.Rows.{lsf_size, magnitude_size, lsf_row, magnitude_row, lsf_fits, magnitude_fits, all_fit}
 use Rattle.codebook_values.specs.declared.ValuesAnswer.{ValuesAnswer}
 use Rattle.codebook_values.specs.declared.ValuesAnswer.TheVariants.{Written, Refused}
 
@@ -19,8 +19,8 @@ added (x ∷ xs) [] = []
 added (x ∷ xs) (y ∷ ys) = (x +ℤ y) ∷ added xs ys
 
 -- four rows added (5.3.4: the sum of the vectors, one of each stage)
-abbrev pub addedFour : List ℤ → List ℤ → List ℤ → List ℤ → List ℤ
-addedFour a b c d = added (added (added a b) c) d
+abbrev pub added_four : List ℤ → List ℤ → List ℤ → List ℤ → List ℤ
+added_four a b c d = added (added (added a b) c) d
 
 -- the larger of two numbers
 abbrev pub larger : ℤ → ℤ → ℤ
@@ -45,85 +45,85 @@ abbrev pub highest : ℤ
 highest = pos 3950000000
 
 -- the most that is asked of a component, by those above it as they are lowered: `most` of the last, of each other the next minus 50 Hz
-abbrev pub mostBelow : ℤ → List ℤ → ℤ
-mostBelow most [] = most
-mostBelow most (next ∷ above) = next -ℤ spacing
+abbrev pub most_below : ℤ → List ℤ → ℤ
+most_below most [] = most
+most_below most (next ∷ above) = next -ℤ spacing
 
 -- each component lowered to at most what is asked of it, from the last one down (document 02, T-03)
 unfoldable pub lowered : ℤ → List ℤ → List ℤ
 lowered most [] = []
-lowered most (x ∷ xs) = let above = lowered most xs in smaller x (mostBelow most above) ∷ above
+lowered most (x ∷ xs) = let above = lowered most xs in smaller x (most_below most above) ∷ above
 
 -- the LSF values of four rows: added, then raised, then lowered
-abbrev pub rowsValues : List ℤ → List ℤ → List ℤ → List ℤ → List ℤ
-rowsValues a b c d = lowered highest (raised spacing (addedFour a b c d))
+abbrev pub rows_values : List ℤ → List ℤ → List ℤ → List ℤ → List ℤ
+rows_values a b c d = lowered highest (raised spacing (added_four a b c d))
 
 -- whether every entry of four rows is within the limit of LSF entries
-abbrev pub rowsFit : List ℤ → List ℤ → List ℤ → List ℤ → Bool
-rowsFit a b c d = all_fit lsfFits a && all_fit lsfFits b && all_fit lsfFits c && all_fit lsfFits d
+abbrev pub rows_fit : List ℤ → List ℤ → List ℤ → List ℤ → Bool
+rows_fit a b c d = all_fit lsf_fits a && all_fit lsf_fits b && all_fit lsf_fits c && all_fit lsf_fits d
 
 -- of what a set's four rows give (5.3.4): L1 names the row of stage 1, L2 of stage 2, L3 of stage 3, L4 of stage 4
-abbrev pub ofRows : {A : Type 0} → (List ℤ → List ℤ → List ℤ → List ℤ → A) → List ℤ → Indices → A
-ofRows f codebook x = f (lsfRow codebook 1 x.l1) (lsfRow codebook 2 x.l2) (lsfRow codebook 3 x.l3) (lsfRow codebook 4 x.l4)
+abbrev pub of_rows : {A : Type 0} → (List ℤ → List ℤ → List ℤ → List ℤ → A) → List ℤ → Indices → A
+of_rows f codebook x = f (lsf_row codebook 1 x.l1) (lsf_row codebook 2 x.l2) (lsf_row codebook 3 x.l3) (lsf_row codebook 4 x.l4)
 
 -- the LSF values of a set (5.3.4)
-unfoldable pub lsfValues : List ℤ → ParameterSet → List ℤ
-lsfValues codebook set = ofRows rowsValues codebook (indicesIn set)
+unfoldable pub lsf_values : List ℤ → ParameterSet → List ℤ
+lsf_values codebook set = of_rows rows_values codebook (indices_in set)
 
 -- the magnitudes of a set: row F (5.3.5); all 1 where it is unvoiced, for such a frame sends none (5.4)
 abbrev pub magnitudes : List ℤ → ParameterSet → List ℤ
 magnitudes codebook (Unvoiced x) = replicate 10 (pos 1000000)
-magnitudes codebook (Voiced x v) = magnitudeRow codebook v.fourier
+magnitudes codebook (Voiced x v) = magnitude_row codebook v.fourier
 
 -- whether the row in use is within the limits; an unvoiced set uses none
-abbrev pub magnitudesFit : List ℤ → ParameterSet → Bool
-magnitudesFit codebook (Unvoiced x) = true
-magnitudesFit codebook (Voiced x v) = all_fit magnitudeFits (magnitudeRow codebook v.fourier)
+abbrev pub magnitudes_fit : List ℤ → ParameterSet → Bool
+magnitudes_fit codebook (Unvoiced x) = true
+magnitudes_fit codebook (Voiced x v) = all_fit magnitude_fits (magnitude_row codebook v.fourier)
 
 -- what refuses LSF values ("Refusals by place"), for an output of `room` numbers: 1, fewer than ten; 5, a set out of range; 6, a codebook of
 -- another length; 7, an entry of one of the set's four rows beyond its limit
-abbrev pub lsfTable : ParameterSet → List ℤ → ℕ → Table
-lsfTable set codebook room =
+abbrev pub lsf_table : ParameterSet → List ℤ → ℕ → Table
+lsf_table set codebook room =
     (ltb room 10, 1)
     ∷ (not (in_range set), 5)
-    ∷ (not (eqb (length codebook) lsfSize), 6)
-    ∷ (not (ofRows rowsFit codebook (indicesIn set)), 7)
+    ∷ (not (eqb (length codebook) lsf_size), 6)
+    ∷ (not (of_rows rows_fit codebook (indices_in set)), 7)
     ∷ []
 
 -- what refuses magnitudes, likewise
-abbrev pub magnitudesTable : ParameterSet → List ℤ → ℕ → Table
-magnitudesTable set codebook room =
+abbrev pub magnitudes_table : ParameterSet → List ℤ → ℕ → Table
+magnitudes_table set codebook room =
     (ltb room 10, 1)
     ∷ (not (in_range set), 5)
-    ∷ (not (eqb (length codebook) magnitudeSize), 6)
-    ∷ (not (magnitudesFit codebook set), 7)
+    ∷ (not (eqb (length codebook) magnitude_size), 6)
+    ∷ (not (magnitudes_fit codebook set), 7)
     ∷ []
 
 -- the refusal of LSF values, 0 is none
-abbrev pub lsfRefusal : ParameterSet → List ℤ → ℕ → ℕ
-lsfRefusal set codebook room = firstRefusal (lsfTable set codebook room)
+abbrev pub lsf_refusal : ParameterSet → List ℤ → ℕ → ℕ
+lsf_refusal set codebook room = first_refusal (lsf_table set codebook room)
 
 -- and of magnitudes
-abbrev pub magnitudesRefusal : ParameterSet → List ℤ → ℕ → ℕ
-magnitudesRefusal set codebook room = firstRefusal (magnitudesTable set codebook room)
+abbrev pub magnitudes_refusal : ParameterSet → List ℤ → ℕ → ℕ
+magnitudes_refusal set codebook room = first_refusal (magnitudes_table set codebook room)
 
 -- the answer: values written, or the refusal's number
-abbrev pub valuesUnless : ℕ → ValuesAnswer
-valuesUnless zero = Written
-valuesUnless (suc n) = Refused (suc n)
+abbrev pub values_unless : ℕ → ValuesAnswer
+values_unless zero = Written
+values_unless (suc n) = Refused (suc n)
 
 -- what a call for LSF values answers, for an output of `room` numbers
-unfoldable pub lsfAnswer : ParameterSet → List ℤ → ℕ → ValuesAnswer
-lsfAnswer set codebook room = valuesUnless (lsfRefusal set codebook room)
+unfoldable pub lsf_answer : ParameterSet → List ℤ → ℕ → ValuesAnswer
+lsf_answer set codebook room = values_unless (lsf_refusal set codebook room)
 
 -- and what its output holds afterwards: the values in front and all past the tenth number kept; after a refusal all kept
-unfoldable pub lsfWrites : ParameterSet → List ℤ → List ℤ → List ℤ
-lsfWrites set codebook out = writtenUnless (lsfRefusal set codebook (length out)) 10 (lsfValues codebook set) out
+unfoldable pub lsf_writes : ParameterSet → List ℤ → List ℤ → List ℤ
+lsf_writes set codebook out = written_unless (lsf_refusal set codebook (length out)) 10 (lsf_values codebook set) out
 
 -- what a call for magnitudes answers
-unfoldable pub magnitudesAnswer : ParameterSet → List ℤ → ℕ → ValuesAnswer
-magnitudesAnswer set codebook room = valuesUnless (magnitudesRefusal set codebook room)
+unfoldable pub magnitudes_answer : ParameterSet → List ℤ → ℕ → ValuesAnswer
+magnitudes_answer set codebook room = values_unless (magnitudes_refusal set codebook room)
 
 -- and what its output holds afterwards
-unfoldable pub magnitudesWrites : ParameterSet → List ℤ → List ℤ → List ℤ
-magnitudesWrites set codebook out = writtenUnless (magnitudesRefusal set codebook (length out)) 10 (magnitudes codebook set) out
+unfoldable pub magnitudes_writes : ParameterSet → List ℤ → List ℤ → List ℤ
+magnitudes_writes set codebook out = written_unless (magnitudes_refusal set codebook (length out)) 10 (magnitudes codebook set) out

@@ -1,8 +1,8 @@
 // LSF values (MIL-STD-3005, 5.3.4) and Fourier magnitudes (5.3.5) of a parameter set.
 ghost use Rattle.std.specs.Prelude.{◌≡◌, true, ◌++◌, ◌≤◌, length, drop};
-ghost use Rattle.bits.specs.Refusals.{firstRefusal};
-ghost use Rattle.codebook_values.specs.Values.{rowsValues, rowsFit, lsfAnswer, lsfWrites, magnitudesAnswer, magnitudesWrites};
-ghost use Rattle.codebook_values.specs.Checks.{earlyTable};
+ghost use Rattle.bits.specs.Refusals.{first_refusal};
+ghost use Rattle.codebook_values.specs.Values.{rows_values, rows_fit, lsf_answer, lsf_writes, magnitudes_answer, magnitudes_writes};
+ghost use Rattle.codebook_values.specs.Checks.{early_table};
 
 use crate::ValuesAnswer;
 use crate::lowering::lower;
@@ -22,8 +22,8 @@ const FLAT: i64 = 1_000_000;
 // The ten LSF values of a set to the front of `out`. Refused: 1, an output of fewer than ten numbers; 5, a set
 // out of range; 6, a codebook of another length; 7, an entry of one of the set's four rows beyond its limit.
 pub fn lsf_values(set: ParameterSet, codebook: &[i64], out: &mut [i64]) -> ValuesAnswer
-    ensures answer { result ≡ lsfAnswer set codebook.now (length out.old) }
-    ensures written { out.new ≡ lsfWrites set codebook.now out.old }
+    ensures answer { result ≡ lsf_answer set codebook.now (length out.old) }
+    ensures written { out.new ≡ lsf_writes set codebook.now out.old }
 {
     let refusal = values_refusal(is_in_range(set), codebook.len(), LSF_SIZE, out.len());
     if refusal != 0 {
@@ -44,8 +44,8 @@ pub fn lsf_values(set: ParameterSet, codebook: &[i64], out: &mut [i64]) -> Value
 // The values of four rows within the limit to the front of `out`: their sums raised, then lowered.
 fn write_values(a: &[i64], b: &[i64], c: &[i64], d: &[i64], out: &mut [i64])
     requires a_len { (length a.now ≡ 10) × (length b.now ≡ 10) × (length c.now ≡ 10) × (length d.now ≡ 10) × (10 ≤ length out.old) }
-    requires d_value { rowsFit a.now b.now c.now d.now ≡ true }
-    ensures { out.new ≡ rowsValues a.now b.now c.now d.now ++ drop 10 out.old }
+    requires d_value { rows_fit a.now b.now c.now d.now ≡ true }
+    ensures { out.new ≡ rows_values a.now b.now c.now d.now ++ drop 10 out.old }
 {
     write_raised(a, b, c, d, out);
     lower(out);
@@ -53,8 +53,8 @@ fn write_values(a: &[i64], b: &[i64], c: &[i64], d: &[i64], out: &mut [i64])
 
 // The ten magnitudes of a set to the front of `out`, refused likewise; an unvoiced set uses no row.
 pub fn magnitudes(set: ParameterSet, codebook: &[i64], out: &mut [i64]) -> ValuesAnswer
-    ensures answer { result ≡ magnitudesAnswer set codebook.now (length out.old) }
-    ensures written { out.new ≡ magnitudesWrites set codebook.now out.old }
+    ensures answer { result ≡ magnitudes_answer set codebook.now (length out.old) }
+    ensures written { out.new ≡ magnitudes_writes set codebook.now out.old }
 {
     let refusal = values_refusal(is_in_range(set), codebook.len(), MAGNITUDE_SIZE, out.len());
     if refusal != 0 {
@@ -70,7 +70,7 @@ pub fn magnitudes(set: ParameterSet, codebook: &[i64], out: &mut [i64]) -> Value
 // What is refused before any row is looked at: for a set in range or not, for the numbers of a codebook that is to have
 // `size` of them, and for the room of an output.
 fn values_refusal(ranged: bool, numbers: usize, size: usize, room: usize) -> u8
-    ensures { result ≡ firstRefusal (earlyTable ranged numbers size room) }
+    ensures { result ≡ first_refusal (early_table ranged numbers size room) }
 {
     if room < 10 {
         return 1;

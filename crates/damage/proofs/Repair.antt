@@ -6,91 +6,91 @@ use Prim.Native.Nat.{ℕ, zero, suc, ◌+◌, ◌≤◌}
 use native.Mathlib.Omega.{arith}
 use lib.Dec.{eqb, lit≤}
 use Rattle.bits.specs.Bits.{◌⊻◌, ones, value, cut}
-use Rattle.pitch.specs.Pitch.{classOf}
+use Rattle.pitch.specs.Pitch.{class_of}
 use Rattle.pitch.specs.declared.PitchClass.TheVariants as class
-use Rattle.pitch.proofs.Damage.{unvoiced-stays, unvoiced-ones}
+use Rattle.pitch.proofs.Damage.{unvoiced_stays, unvoiced_ones}
 use Rattle.hamming.specs.Word.{decode}
 use Rattle.hamming.specs.declared.Decoded.{Decoded}
 use Rattle.hamming.specs.declared.Decoded.TheVariants as word
-use Rattle.hamming.proofs.Repairs.{decode-back, double-erases}
-use Rattle.frame.specs.Layout.{dataA, dataB, dataC, dataD, words, others, unvoicedWords, logical, logicalOf}
-use Rattle.order.specs.Fields.{wordA, wordB, wordC, wordD, pitchBits}
-use Rattle.reading.specs.Reading.{pitchRepaired, fromWords, byClass, read}
-use Rattle.bursts.specs.Flips.{Correctable, protectedFlips}
-use Rattle.bursts.proofs.Flips.{protected-sum}
+use Rattle.hamming.proofs.Repairs.{decode_back, double_erases}
+use Rattle.frame.specs.Layout.{data_a, data_b, data_c, data_d, words, others, unvoiced_words, logical, logical_of}
+use Rattle.order.specs.Fields.{word_a, word_b, word_c, word_d, pitch_bits}
+use Rattle.reading.specs.Reading.{pitch_repaired, from_words, by_class, read}
+use Rattle.bursts.specs.Flips.{Correctable, protected_flips}
+use Rattle.bursts.proofs.Flips.{protected_sum}
 use Rattle.sets.specs.declared.Indices.{Indices}
 use Rattle.sets.specs.declared.ParameterSet.TheVariants.{Unvoiced}
 use Rattle.reading.specs.declared.Reading.TheVariants.{Accepted, Erased}
 use Rattle.sets.proofs.Ranges.{IndexRanges}
-use Rattle.frame.proofs.SharedIndices.{l1-back, g2-back, g1-back}
+use Rattle.frame.proofs.SharedIndices.{l1_back, g2_back, g1_back}
 
 -- logical bits after flips
 abbrev pub damaged : (ℕ → Bool) → (ℕ → Bool) → ℕ → Bool
 damaged g fl j = g j ⊻ fl j
 
 -- a count of at most 1 is 1 or 0
-single-count : (n : ℕ) → n ≤ 1 → cond (eqb n 1) 1 0 ≡ n
-single-count zero h = refl
-single-count (suc zero) h = refl
-single-count (suc (suc n)) h = absurd (omega arith)
+single_count : (n : ℕ) → n ≤ 1 → cond (eqb n 1) 1 0 ≡ n
+single_count zero h = refl
+single_count (suc zero) h = refl
+single_count (suc (suc n)) h = absurd (omega arith)
 
 module _ (x : Indices) (sync : Bool) (fl : ℕ → Bool) where
   -- the bits received
   abbrev got : ℕ → Bool
-  got = damaged (logicalOf (Unvoiced x) sync) fl
+  got = damaged (logical_of (Unvoiced x) sync) fl
 
   -- the indices read: L2 to L4 as received, the others as sent
   abbrev pub seen : Indices
   seen = record { l1 = x.l1; l2 = value (cut got 35 6); l3 = value (cut got 41 6); l4 = value (cut got 47 6); g2 = x.g2; g1 = x.g1 }
 
-  class-stays : ones (pitchBits fl) ≤ 1 → classOf (pitchBits got) ≡ class.Unvoiced
-  unfolding words others unvoicedWords logical
-  class-stays h = unvoiced-stays (pitchBits fl) refl h
+  class_stays : ones (pitch_bits fl) ≤ 1 → class_of (pitch_bits got) ≡ class.Unvoiced
+  unfolding words others unvoiced_words logical
+  class_stays h = unvoiced_stays (pitch_bits fl) refl h
 
   module _ (k : Correctable fl) where
-    word-a : decode 8 (wordA got) ≡ word.Read (value (dataA x)) (ones (wordA fl))
-    unfolding words others unvoicedWords logical
-    word-a = decode-back 8 (lit≤ tt) (lit≤ tt) (dataA x) (wordA fl) refl refl k.a
+    word_a_lem : decode 8 (word_a got) ≡ word.Read (value (data_a x)) (ones (word_a fl))
+    unfolding words others unvoiced_words logical
+    word_a_lem = decode_back 8 (lit≤ tt) (lit≤ tt) (data_a x) (word_a fl) refl refl k.a
 
-    word-b : decode 6 (wordB got) ≡ word.Read (value (dataB x)) (ones (wordB fl))
-    unfolding words others unvoicedWords logical
-    word-b = decode-back 6 (lit≤ tt) (lit≤ tt) (dataB x) (wordB fl) refl refl k.b
+    word_b_lem : decode 6 (word_b got) ≡ word.Read (value (data_b x)) (ones (word_b fl))
+    unfolding words others unvoiced_words logical
+    word_b_lem = decode_back 6 (lit≤ tt) (lit≤ tt) (data_b x) (word_b fl) refl refl k.b
 
-    word-c : decode 7 (wordC got) ≡ word.Read (value (dataC x)) (ones (wordC fl))
-    unfolding words others unvoicedWords logical
-    word-c = decode-back 7 (lit≤ tt) (lit≤ tt) (dataC x) (wordC fl) refl refl k.c
+    word_c_lem : decode 7 (word_c got) ≡ word.Read (value (data_c x)) (ones (word_c fl))
+    unfolding words others unvoiced_words logical
+    word_c_lem = decode_back 7 (lit≤ tt) (lit≤ tt) (data_c x) (word_c fl) refl refl k.c
 
-    word-d : decode 7 (wordD got) ≡ word.Read (value (dataD x)) (ones (wordD fl))
-    unfolding words others unvoicedWords logical
-    word-d = decode-back 7 (lit≤ tt) (lit≤ tt) (dataD x) (wordD fl) refl refl k.d
+    word_d_lem : decode 7 (word_d got) ≡ word.Read (value (data_d x)) (ones (word_d fl))
+    unfolding words others unvoiced_words logical
+    word_d_lem = decode_back 7 (lit≤ tt) (lit≤ tt) (data_d x) (word_d fl) refl refl k.d
 
-    pitch-count : pitchRepaired (pitchBits got) ≡ ones (pitchBits fl)
-    unfolding words others unvoicedWords logical
-    pitch-count = ap (λ (n : ℕ). cond (eqb n 1) 1 0) (unvoiced-ones (pitchBits fl) refl k.pitch) ∙ single-count (ones (pitchBits fl)) k.pitch
+    pitch_count : pitch_repaired (pitch_bits got) ≡ ones (pitch_bits fl)
+    unfolding words others unvoiced_words logical
+    pitch_count = ap (λ (n : ℕ). cond (eqb n 1) 1 0) (unvoiced_ones (pitch_bits fl) refl k.pitch) ∙ single_count (ones (pitch_bits fl)) k.pitch
 
-    flips-are : pitchRepaired (pitchBits got) + ones (wordA fl) + ones (wordB fl) + ones (wordC fl) + ones (wordD fl) ≡ protectedFlips fl
-    flips-are =
-        ap (λ (n : ℕ). n + ones (wordA fl) + ones (wordB fl) + ones (wordC fl) + ones (wordD fl)) pitch-count
-        ∙ sym (protected-sum fl)
+    flips_are : pitch_repaired (pitch_bits got) + ones (word_a fl) + ones (word_b fl) + ones (word_c fl) + ones (word_d fl) ≡ protected_flips fl
+    flips_are =
+        ap (λ (n : ℕ). n + ones (word_a fl) + ones (word_b fl) + ones (word_c fl) + ones (word_d fl)) pitch_count
+        ∙ sym (protected_sum fl)
 
-    pub correctable-read : IndexRanges x → read got ≡ Accepted (Unvoiced seen) (protectedFlips fl)
+    pub correctable_read : IndexRanges x → read got ≡ Accepted (Unvoiced seen) (protected_flips fl)
     unfolding read
-    correctable-read v =
-        ap (byClass got) (class-stays k.pitch)
-        ∙ (λ i. fromWords got (word-a i) (word-b i) (word-c i) (word-d i))
+    correctable_read v =
+        ap (by_class got) (class_stays k.pitch)
+        ∙ (λ i. from_words got (word_a_lem i) (word_b_lem i) (word_c_lem i) (word_d_lem i))
         ∙ (λ i. Accepted (Unvoiced (record {
-          l1 = l1-back x v.l1 i;
+          l1 = l1_back x v.l1 i;
           l2 = value (cut got 35 6);
           l3 = value (cut got 41 6);
           l4 = value (cut got 47 6);
-          g2 = g2-back x v.g2 i;
-          g1 = g1-back x v.g1 i;
-        })) (flips-are i))
+          g2 = g2_back x v.g2 i;
+          g1 = g1_back x v.g1 i;
+        })) (flips_are i))
 
   -- exactly two flips in word A under an unvoiced pitch code: erased
-  pub double-read : ones (wordA fl) ≡ 2 → ones (pitchBits fl) ≤ 1 → read got ≡ Erased
-  unfolding words others unvoicedWords logical read
-  double-read ha hp =
-      ap (byClass got) (class-stays hp)
-      ∙ ap (λ (r : Decoded). fromWords got r (decode 6 (wordB got)) (decode 7 (wordC got)) (decode 7 (wordD got)))
-      (double-erases (dataA x) (wordA fl) refl refl ha)
+  pub double_read : ones (word_a fl) ≡ 2 → ones (pitch_bits fl) ≤ 1 → read got ≡ Erased
+  unfolding words others unvoiced_words logical read
+  double_read ha hp =
+      ap (by_class got) (class_stays hp)
+      ∙ ap (λ (r : Decoded). from_words got r (decode 6 (word_b got)) (decode 7 (word_c got)) (decode 7 (word_d got)))
+      (double_erases (data_a x) (word_a fl) refl refl ha)

@@ -5,13 +5,13 @@ use Prim.Native.Nat.{ℕ, ◌≤◌, ◌<◌}
 use mathlib.Core.Path.{refl}
 use lib.Dec.{T}
 use Rattle.bits.specs.Bits.{ones}
-use Rattle.pitch.specs.Pitch.{classOf}
+use Rattle.pitch.specs.Pitch.{class_of}
 use Rattle.pitch.specs.declared.PitchClass.{PitchClass}
 use Rattle.pitch.specs.declared.PitchClass.TheVariants as class
-use Rattle.pitch.proofs.Damage.{notUnvoiced, voiced-keeps}
-use Rattle.frame.specs.Layout.{words, others, voicedWords, logical, logicalOf}
-use Rattle.order.specs.Fields.{pitchBits}
-use Rattle.reading.specs.Reading.{byClass, read}
+use Rattle.pitch.proofs.Damage.{not_unvoiced, voiced_keeps}
+use Rattle.frame.specs.Layout.{words, others, voiced_words, logical, logical_of}
+use Rattle.order.specs.Fields.{pitch_bits}
+use Rattle.reading.specs.Reading.{by_class, read}
 use Rattle.sets.specs.declared.Indices.{Indices}
 use Rattle.sets.specs.declared.Voicing.{Voicing}
 use Rattle.sets.specs.declared.ParameterSet.TheVariants.{Unvoiced, Voiced}
@@ -20,20 +20,20 @@ use Rattle.reading.specs.declared.Reading.TheVariants.{Accepted, Erased}
 use Rattle.damage.proofs.Repair.{damaged}
 
 -- read voiced, or erased
-abbrev pub voicedOrErased : Reading → Bool
-voicedOrErased (Accepted (Unvoiced x) k) = false
-voicedOrErased (Accepted (Voiced x v) k) = true
-voicedOrErased Erased = true
+abbrev pub voiced_or_erased : Reading → Bool
+voiced_or_erased (Accepted (Unvoiced x) k) = false
+voiced_or_erased (Accepted (Voiced x v) k) = true
+voiced_or_erased Erased = true
 
-by-class : (g : ℕ → Bool) (c : PitchClass) → T (notUnvoiced c) → T (voicedOrErased (byClass g c))
-by-class g class.Unvoiced t = absurd t
-by-class g class.Erased t = tt
-by-class g (class.Voiced i) t = tt
+by_class_lem : (g : ℕ → Bool) (c : PitchClass) → T (not_unvoiced c) → T (voiced_or_erased (by_class g c))
+by_class_lem g class.Unvoiced t = absurd t
+by_class_lem g class.Erased t = tt
+by_class_lem g (class.Voiced i) t = tt
 
 -- a voiced frame with at most one flip in its pitch code is read voiced or erased
-pub voiced-read : (x : Indices) (v : Voicing) (sync : Bool) (fl : ℕ → Bool) → v.pitch < 99 → ones (pitchBits fl) ≤ 1
-    → T (voicedOrErased (read (damaged (logicalOf (Voiced x v) sync) fl)))
-unfolding words others voicedWords logical read
-voiced-read x v sync fl h f =
-    let g : ℕ → Bool = damaged (logicalOf (Voiced x v) sync) fl in
-    by-class g (classOf (pitchBits g)) (voiced-keeps v.pitch h (pitchBits fl) refl f)
+pub voiced_read : (x : Indices) (v : Voicing) (sync : Bool) (fl : ℕ → Bool) → v.pitch < 99 → ones (pitch_bits fl) ≤ 1
+    → T (voiced_or_erased (read (damaged (logical_of (Voiced x v) sync) fl)))
+unfolding words others voiced_words logical read
+voiced_read x v sync fl h f =
+    let g : ℕ → Bool = damaged (logical_of (Voiced x v) sync) fl in
+    by_class_lem g (class_of (pitch_bits g)) (voiced_keeps v.pitch h (pitch_bits fl) refl f)

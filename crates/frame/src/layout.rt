@@ -1,9 +1,9 @@
 // The 54 logical bits of a set and a sync bit, as one number: logical bit 0 is the most significant.
 ghost use Rattle.std.specs.Prelude.{◌≡◌, true, ◌+◌, ◌*◌, ◌≤◌, ◌<◌, ◌^◌};
-ghost use Rattle.bits.specs.Bits.{bitNum, value, bits};
+ghost use Rattle.bits.specs.Bits.{bit_num, value, bits};
 ghost use Rattle.pitch.specs.Pitch.{code_of};
 ghost use Rattle.sets.specs.Sets.{sendable};
-ghost use Rattle.frame.specs.Layout.{words, unvoicedWords, voicedWords, others, logical};
+ghost use Rattle.frame.specs.Layout.{words, unvoiced_words, voiced_words, others, logical};
 
 use hamming::{WordLength, parity_of};
 use pitch::CodeAnswer;
@@ -11,7 +11,7 @@ use sets::{Indices, ParameterSet, Voicing};
 
 // A bit as a number.
 fn bit_number(b: bool) -> u64
-    ensures number { result ≡ bitNum b }
+    ensures number { result ≡ bit_num b }
     ensures bound { result ≤ 1 }
 {
     if b { 1 } else { 0 }
@@ -65,7 +65,7 @@ fn other_bits(x: Indices, code: u8, sync: bool) -> u64
 fn voiced_words(x: Indices, v: Voicing) -> u64
     requires l1_bound { (x.l1 < 128) × (x.g2 < 32) × (x.g1 < 8) }
     requires bandpass_bound { (v.bandpass < 16) × (v.aperiodic < 2) }
-    ensures number { result ≡ value (voicedWords x v) }
+    ensures number { result ≡ value (voiced_words x v) }
     ensures bound { result < 2 ^ 28 }
 {
     let f = v.fourier;
@@ -75,7 +75,7 @@ fn voiced_words(x: Indices, v: Voicing) -> u64
 // The four words of an unvoiced set: the parity of the data in the parity places.
 fn unvoiced_words(x: Indices) -> u64
     requires { (x.l1 < 128) × (x.g2 < 32) × (x.g1 < 8) }
-    ensures number { result ≡ value (unvoicedWords x) }
+    ensures number { result ≡ value (unvoiced_words x) }
     ensures bound { result < 2 ^ 28 }
 {
     let a = parity_of(WordLength::Eight, x.l1 / 8);

@@ -1,6 +1,6 @@
 // Packing: a parameter set and a sync bit into the seven bytes of a frame.
 ghost use Rattle.std.specs.Prelude.{◌≡◌, ◌++◌, ◌≤◌, length, drop};
-ghost use Rattle.frame.specs.Packing.{freshSync, packAnswer, packWrites, setRefusal};
+ghost use Rattle.frame.specs.Packing.{fresh_sync, pack_answer, pack_writes, set_refusal};
 
 use crate::PackAnswer;
 use crate::layout::logical_number;
@@ -19,14 +19,14 @@ fn write_front(out: &mut [u8], bytes: [u8; 7])
 
 // The sync bit of a sender that has packed no frame.
 pub fn fresh_sync() -> bool
-    ensures { result ≡ freshSync }
+    ensures { result ≡ fresh_sync }
 {
     false
 }
 
 // The number that refuses a set that no sender takes, by the list lent with it: 10 where that is no order, else 5.
 fn set_refusal(order: &[u8]) -> u8
-    ensures { result ≡ setRefusal order.now }
+    ensures { result ≡ set_refusal order.now }
 {
     if is_order(order) { 5 } else { 10 }
 }
@@ -35,8 +35,8 @@ fn set_refusal(order: &[u8]) -> u8
 // state, and the answer holds the next one. Refused: 1, an output of fewer than seven bytes; 10, a list that is no order; 5, a
 // set out of range.
 pub fn pack(set: ParameterSet, sync: bool, order: &[u8], out: &mut [u8]) -> PackAnswer
-    ensures answer { result ≡ packAnswer order.now set sync (length out.old) }
-    ensures written { out.new ≡ packWrites order.now set sync out.old }
+    ensures answer { result ≡ pack_answer order.now set sync (length out.old) }
+    ensures written { out.new ≡ pack_writes order.now set sync out.old }
 {
     if out.len() < 7 {
         return PackAnswer::Refused(1);

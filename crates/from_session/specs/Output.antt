@@ -2,32 +2,32 @@
 use Rattle.std.specs.Prelude.{ℕ, ◌+◌, ◌≡◌, List, [], ◌++◌, take}
 use Rattle.bits.specs.Lists.{ReadFrom}
 use Rattle.text.specs.Text.{ascii, decimal, field}
-use Rattle.session.specs.Format.{mostText}
+use Rattle.session.specs.Format.{most_text}
 use Rattle.session.specs.Writing.{joined}
 use Rattle.session_claims.specs.Reading.{reading}
 use Rattle.session_reader.specs.declared.Answer.{Answer}
 use Rattle.session_reader.specs.declared.Answer.TheVariants.{Frame, End, Refused}
 
 -- as many bytes as are read: one more than the longest file has
-abbrev pub mostInput : ℕ
-mostInput = mostText + 1
+abbrev pub most_input : ℕ
+most_input = most_text + 1
 
 -- the frames of all of standard input, seven bytes each; those before a bad line
 unfoldable pub frames : List ℕ → List ℕ
 frames input = joined (reading input).frames
 
 -- the line of a refusal: its number, and that of the bad line
-unfoldable pub refusalLine : ℕ → ℕ → List ℕ
-refusalLine n line = field "refused=" (decimal n) ++ (field " line=" (decimal line) ++ ascii "\n")
+unfoldable pub refusal_line : ℕ → ℕ → List ℕ
+refusal_line n line = field "refused=" (decimal n) ++ (field " line=" (decimal line) ++ ascii "\n")
 
 -- nothing where there is none
-abbrev pub messageOf : Answer → List ℕ
-messageOf Frame = []
-messageOf End = []
-messageOf (Refused n line) = refusalLine n line
+abbrev pub message_of : Answer → List ℕ
+message_of Frame = []
+message_of End = []
+message_of (Refused n line) = refusal_line n line
 
 abbrev pub message : List ℕ → List ℕ
-message input = messageOf (reading input).answer
+message input = message_of (reading input).answer
 
 -- both, for every input from which a buffer and the count of its bytes were read
 abbrev pub AllWritten : List ℕ → ℕ → List ℕ → ℕ → List ℕ → ℕ → Type 0

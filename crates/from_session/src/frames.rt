@@ -1,7 +1,7 @@
 // The frames of a session file.
 ghost use Rattle.std.specs.Prelude.{◌≡◌, ◌++◌, ◌+◌, ◌*◌, ◌≤◌, length, drop};
 ghost use Rattle.text.specs.Placing.{written};
-ghost use Rattle.session.specs.Format.{mostFrames};
+ghost use Rattle.session.specs.Format.{most_frames};
 ghost use Rattle.session.specs.Writing.{joined};
 ghost use Rattle.session_claims.specs.Reading.{reading};
 
@@ -26,7 +26,7 @@ fn put_frame(frame: [u8; 7], out: &mut [u8], at: usize)
 
 // The frames of a text to the front of `out`, until the reader hands on none.
 pub(crate) fn copy_frames(text: &[u8], out: &mut [u8]) -> Copied
-    requires { 7 * mostFrames ≤ length out.old }
+    requires { 7 * most_frames ≤ length out.old }
     ensures answer { result.answer ≡ (reading text.now).answer }
     ensures end { result.end ≡ length (joined (reading text.now).frames) }
     ensures frames { out.new ≡ joined (reading text.now).frames ++ drop result.end out.old }

@@ -2,8 +2,8 @@
 ghost use Rattle.std.specs.Prelude.{◌≡◌, ◌≤◌, ◌*◌, length};
 ghost use Rattle.io.specs.Counts.{IsPrefixLen};
 ghost use Rattle.text.specs.Placing.{Put};
-ghost use Rattle.session.specs.Format.{mostFrames};
-ghost use Rattle.from_session.specs.Output.{mostInput, refusalLine, AllWritten};
+ghost use Rattle.session.specs.Format.{most_frames};
+ghost use Rattle.from_session.specs.Output.{most_input, refusal_line, AllWritten};
 
 use crate::frames::copy_frames;
 use session_reader::Answer;
@@ -23,7 +23,7 @@ pub(crate) struct Ends {
 // The line of a refusal; where it ends.
 fn write_message(n: u8, line: u16, out: &mut [u8]) -> usize
     requires { 60 ≤ length out.old }
-    ensures { Put out.old 0 (refusalLine n line) out.new result }
+    ensures { Put out.old 0 (refusal_line n line) out.new result }
 {
     let numbered = end_of(number(REFUSED, 8, n as u64, out, 0), 0);
     let end = end_of(number(LINE, 6, line as u64, out, numbered), numbered);
@@ -32,8 +32,8 @@ fn write_message(n: u8, line: u16, out: &mut [u8]) -> usize
 
 // The frames and the line for the standard input of which the first `size` bytes of a buffer were read.
 pub(crate) fn read_file(input: &[u8], size: usize, out: &mut [u8], message: &mut [u8]) -> Ends
-    requires input_len { (length input.now ≡ mostInput) × IsPrefixLen size input.now }
-    requires out_len { (length out.old ≡ 7 * mostFrames) × (length message.old ≡ 60) }
+    requires input_len { (length input.now ≡ most_input) × IsPrefixLen size input.now }
+    requires out_len { (length out.old ≡ 7 * most_frames) × (length message.old ≡ 60) }
     ensures frames { IsPrefixLen result.frames out.new }
     ensures message { IsPrefixLen result.message message.new }
     ensures written { AllWritten input.now size out.new result.frames message.new result.message }

@@ -5,9 +5,9 @@ use native.Mathlib.Omega.{arith}
 use Rattle.gain.specs.Levels.{level}
 
 -- 31 times the level is 310 dB and 67 dB for each index
-pub level-is : (i : ℕ) → 31 * level i ≡ 186 * (310 + 67 * i)
-level-is i = omega arith
+pub level_is : (i : ℕ) → 31 * level i ≡ 186 * (310 + 67 * i)
+level_is i = omega arith
 
 -- each level is below the next
-pub level-lt-next : (i : ℕ) → level i < level (i + 1)
-level-lt-next i = omega arith
+pub level_lt_next : (i : ℕ) → level i < level (i + 1)
+level_lt_next i = omega arith

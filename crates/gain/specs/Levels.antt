@@ -1,6 +1,6 @@
 -- Document 01, "Gain levels" (5.3.3): the level of a second code G2, and the first level of a frame, after a frame whose second code is q.
 use Rattle.std.specs.Prelude.{ℕ, zero, suc, ◌+◌, ◌-◌, ◌*◌, ◌/◌, min, not, ◌&&◌, [], ◌∷◌, leb}
-use Rattle.bits.specs.Refusals.{firstRefusal}
+use Rattle.bits.specs.Refusals.{first_refusal}
 use Rattle.gain.specs.declared.LevelAnswer.{LevelAnswer}
 use Rattle.gain.specs.declared.LevelAnswer.TheVariants.{Level, Refused}
 
@@ -17,32 +17,32 @@ abbrev pub mean : ℕ → ℕ → ℕ
 mean g2 q = (level g2 + level q) / 2
 
 -- the first level of a code: 0 is the mean; 1 to 7 go up from 6 dB below the smaller level to 6 dB above the larger one
-unfoldable pub firstLevel : ℕ → ℕ → ℕ → ℕ
-firstLevel g2 zero q = mean g2 q
-firstLevel g2 (suc c) q = min (level g2) (level q) - 1116 + c * (67 * apart g2 q + 372)
+unfoldable pub first_level : ℕ → ℕ → ℕ → ℕ
+first_level g2 zero q = mean g2 q
+first_level g2 (suc c) q = min (level g2) (level q) - 1116 + c * (67 * apart g2 q + 372)
 
 -- the refusal of a level: 5 where G2 is out of range, 0 for none
-abbrev pub levelRefusal : ℕ → ℕ
-levelRefusal g2 = firstRefusal ((not (leb g2 31), 5) ∷ [])
+abbrev pub level_refusal : ℕ → ℕ
+level_refusal g2 = first_refusal ((not (leb g2 31), 5) ∷ [])
 
 -- the refusal of a first level: 5 where G2, the code or q is out of range
-abbrev pub firstLevelRefusal : ℕ → ℕ → ℕ → ℕ
-firstLevelRefusal g2 code q = firstRefusal ((not (leb g2 31 && leb code 7 && leb q 31), 5) ∷ [])
+abbrev pub first_level_refusal : ℕ → ℕ → ℕ → ℕ
+first_level_refusal g2 code q = first_refusal ((not (leb g2 31 && leb code 7 && leb q 31), 5) ∷ [])
 
 -- the level where the refusal is 0, otherwise the refusal
-abbrev pub levelUnless : ℕ → ℕ → LevelAnswer
-levelUnless zero l = Level l
-levelUnless (suc n) l = Refused (suc n)
+abbrev pub level_unless : ℕ → ℕ → LevelAnswer
+level_unless zero l = Level l
+level_unless (suc n) l = Refused (suc n)
 
 -- the answer to a call for the level of G2
-unfoldable pub levelAnswer : ℕ → LevelAnswer
-levelAnswer g2 = levelUnless (levelRefusal g2) (level g2)
+unfoldable pub level_answer : ℕ → LevelAnswer
+level_answer g2 = level_unless (level_refusal g2) (level g2)
 
 -- the answer to a call for the first level
-unfoldable pub firstLevelAnswer : ℕ → ℕ → ℕ → LevelAnswer
-firstLevelAnswer g2 code q = levelUnless (firstLevelRefusal g2 code q) (firstLevel g2 code q)
+unfoldable pub first_level_answer : ℕ → ℕ → ℕ → LevelAnswer
+first_level_answer g2 code q = level_unless (first_level_refusal g2 code q) (first_level g2 code q)
 
 -- a helper of the code above: the level in an answer that is no refusal; a refusal has none
-abbrev pub levelIn : LevelAnswer → ℕ
-levelIn (Level l) = l
-levelIn (Refused n) = 0
+abbrev pub level_in : LevelAnswer → ℕ
+level_in (Level l) = l
+level_in (Refused n) = 0

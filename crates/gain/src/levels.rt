@@ -1,6 +1,6 @@
 // From gain codes to levels (5.3.3).
 ghost use Rattle.std.specs.Prelude.{◌≡◌, ◌+◌, ◌*◌, min};
-ghost use Rattle.gain.specs.Levels.{level, apart, mean, firstLevel, levelAnswer, firstLevelAnswer};
+ghost use Rattle.gain.specs.Levels.{level, apart, mean, first_level, level_answer, first_level_answer};
 
 use crate::LevelAnswer;
 
@@ -16,7 +16,7 @@ fn level_of(g2: u8) -> u32
 
 // The first level of a frame by its codes and `q`, the second code before, by the formula alone.
 fn first_level_of(g2: u8, code: u8, q: u8) -> u32
-    ensures { result ≡ firstLevel g2 code q }
+    ensures { result ≡ first_level g2 code q }
 {
     if code == 0 {
         return mean_level(g2, q);
@@ -26,7 +26,7 @@ fn first_level_of(g2: u8, code: u8, q: u8) -> u32
 
 // The level of a second code, refused past 31.
 pub fn level(g2: u8) -> LevelAnswer
-    ensures { result ≡ levelAnswer g2 }
+    ensures { result ≡ level_answer g2 }
 {
     if g2 <= 31 {
         LevelAnswer::Level(level_of(g2))
@@ -37,7 +37,7 @@ pub fn level(g2: u8) -> LevelAnswer
 
 // The first level of a frame, refused where a code is out of range.
 pub fn first_level(g2: u8, code: u8, q: u8) -> LevelAnswer
-    ensures { result ≡ firstLevelAnswer g2 code q }
+    ensures { result ≡ first_level_answer g2 code q }
 {
     if (g2 <= 31) & (code <= 7) & (q <= 31) {
         LevelAnswer::Level(first_level_of(g2, code, q))

@@ -6,22 +6,22 @@ use mathlib.Core.List.{List}
 use Prim.Native.Nat.{ℕ, ◌≤◌}
 use native.Mathlib.Omega.{arith}
 use lib.ListN.{length, length-take}
-use Rattle.bits.proofs.Value.{value-lt-at}
-use Rattle.hamming.specs.Word.{dataBits, data_of, syndrome, flipAt, Fix, stand, flip, erase, fixOf, mend, decode, Bounded}
-use Rattle.hamming.proofs.Words.{flip-length}
+use Rattle.bits.proofs.Value.{value_lt_at}
+use Rattle.hamming.specs.Word.{data_bits, data_of, syndrome, flip_at, Fix, stand, flip, erase, fix_of, mend, decode, Bounded}
+use Rattle.hamming.proofs.Words.{flip_length}
 
 -- the data of a word of n bits
-pub data-length : (n : ℕ) (w : List Bool) → length w ≡ n → length (data_of n w) ≡ dataBits n
-data-length n w e = length-take (dataBits n) w ∙ omega arith
+pub data_length : (n : ℕ) (w : List Bool) → length w ≡ n → length (data_of n w) ≡ data_bits n
+data_length n w e = length-take (data_bits n) w ∙ omega arith
 
 -- every request leaves an outcome that fits the word
-mend-bounded : (n : ℕ) (w : List Bool) → 1 ≤ n → length w ≡ n → (f : Fix) → Bounded n (mend n w f)
-mend-bounded n w h e stand = (value-lt-at (dataBits n) (data_of n w) (data-length n w e), omega arith)
-mend-bounded n w h e (flip k) =
-    (value-lt-at (dataBits n) (data_of n (flipAt k w)) (data-length n (flipAt k w) (flip-length k w ∙ e)), h)
-mend-bounded n w h e erase = tt
+mend_bounded : (n : ℕ) (w : List Bool) → 1 ≤ n → length w ≡ n → (f : Fix) → Bounded n (mend n w f)
+mend_bounded n w h e stand = (value_lt_at (data_bits n) (data_of n w) (data_length n w e), omega arith)
+mend_bounded n w h e (flip k) =
+    (value_lt_at (data_bits n) (data_of n (flip_at k w)) (data_length n (flip_at k w) (flip_length k w ∙ e)), h)
+mend_bounded n w h e erase = tt
 
 -- what a received word is read as fits it
-pub decode-bounded : (n : ℕ) (w : List Bool) → 1 ≤ n → length w ≡ n → Bounded n (decode n w)
+pub decode_bounded : (n : ℕ) (w : List Bool) → 1 ≤ n → length w ≡ n → Bounded n (decode n w)
 unfolding decode
-decode-bounded n w h e = mend-bounded n w h e (fixOf n (syndrome n w))
+decode_bounded n w h e = mend_bounded n w h e (fix_of n (syndrome n w))

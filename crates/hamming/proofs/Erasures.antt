@@ -9,44 +9,44 @@ use lib.Dec.{eqb}
 use lib.ListN.{length}
 use borrow.Author.Tests.{eq-eqb, eqb-true}
 use Rattle.bits.specs.Bits.{◌⊕◌, ones}
-use Rattle.hamming.specs.Word.{dataBits, encode, syndrome, erases, bitFrom, stand, flip, erase, fixOf, mend, decode}
+use Rattle.hamming.specs.Word.{data_bits, encode, syndrome, erases, bit_from, stand, flip, erase, fix_of, mend, decode}
 use Rattle.hamming.specs.declared.Decoded.{Decoded}
 use Rattle.hamming.specs.declared.Decoded.TheVariants.{Read, Erased}
-use Rattle.hamming.proofs.Repairs.{decode-back}
+use Rattle.hamming.proofs.Repairs.{decode_back}
 
 -- whether the outcome of a word is an erasure
-abbrev pub isErased : Decoded → Bool
-isErased (Read d k) = false
-isErased Erased = true
+abbrev pub is_erased : Decoded → Bool
+is_erased (Read d k) = false
+is_erased Erased = true
 
-pub erased-eq : (r : Decoded) → isErased r ≡ true → r ≡ Erased
-erased-eq (Read d k) e = absurd (false≢true e)
-erased-eq Erased e = refl
+pub erased_eq : (r : Decoded) → is_erased r ≡ true → r ≡ Erased
+erased_eq (Read d k) e = absurd (false≢true e)
+erased_eq Erased e = refl
 
 -- zero erases no word
-zero-keeps : (n : ℕ) (z : List Bool) → ones z ≡ 0 → erases n z ≡ false
-zero-keeps n [] e = simp (and-false (eqb n 8), and-false (eqb n 6))
-zero-keeps n (true ∷ z) e = absurd (omega arith)
-zero-keeps n (false ∷ z) e = simp (eq-eqb (ones z) 0 e, and-false (eqb n 8), and-false (eqb n 6))
+zero_keeps : (n : ℕ) (z : List Bool) → ones z ≡ 0 → erases n z ≡ false
+zero_keeps n [] e = simp (and-false (eqb n 8), and-false (eqb n 6))
+zero_keeps n (true ∷ z) e = absurd (omega arith)
+zero_keeps n (false ∷ z) e = simp (eq-eqb (ones z) 0 e, and-false (eqb n 8), and-false (eqb n 6))
 
 -- the outcome by the two tests of a syndrome, of which not both hold
-by_tests : (n : ℕ) (w : List Bool) (k : ℕ) (a b : Bool) → (a ≡ true → b ≡ false) → isErased (mend n w (cond a stand (cond b erase (flip k)))) ≡ b
+by_tests : (n : ℕ) (w : List Bool) (k : ℕ) (a b : Bool) → (a ≡ true → b ≡ false) → is_erased (mend n w (cond a stand (cond b erase (flip k)))) ≡ b
 by_tests n w k true b h = sym (h refl)
 by_tests n w k false true h = refl
 by_tests n w k false false h = refl
 
 -- a received word is erased exactly where its syndrome erases
-pub decode-erased : (n : ℕ) (w : List Bool) → isErased (decode n w) ≡ erases n (syndrome n w)
-unfolding decode fixOf
-decode-erased n w =
+pub decode_erased : (n : ℕ) (w : List Bool) → is_erased (decode n w) ≡ erases n (syndrome n w)
+unfolding decode fix_of
+decode_erased n w =
     let z = syndrome n w in
-    by_tests n w (bitFrom n z n 0) (eqb (ones z) 0) (erases n z) (λ h. zero-keeps n z (eqb-true (ones z) 0 h))
+    by_tests n w (bit_from n z n 0) (eqb (ones z) 0) (erases n z) (λ h. zero_keeps n z (eqb-true (ones z) 0 h))
 
-module _ (n : ℕ) (l : 6 ≤ n) (m : n ≤ 8) (d e : List Bool) (hd : length d ≡ dataBits n) (he : length e ≡ n) (h : ones e ≤ 1) where
+module _ (n : ℕ) (l : 6 ≤ n) (m : n ≤ 8) (d e : List Bool) (hd : length d ≡ data_bits n) (he : length e ≡ n) (h : ones e ≤ 1) where
   -- a word with at most one flip is never erased
-  pub one-flip-read : isErased (decode n (encode n d ⊕ e)) ≡ false
-  one-flip-read = ap isErased (decode-back n l m d e hd he h)
+  pub one_flip_read : is_erased (decode n (encode n d ⊕ e)) ≡ false
+  one_flip_read = ap is_erased (decode_back n l m d e hd he h)
 
   -- so it shows no syndrome that erases, word B not the spare's
-  pub one-flip-syndrome : erases n (syndrome n (encode n d ⊕ e)) ≡ false
-  one-flip-syndrome = sym (decode-erased n (encode n d ⊕ e)) ∙ one-flip-read
+  pub one_flip_syndrome : erases n (syndrome n (encode n d ⊕ e)) ≡ false
+  one_flip_syndrome = sym (decode_erased n (encode n d ⊕ e)) ∙ one_flip_read

@@ -7,46 +7,46 @@ use Prim.Native.Nat.{ℕ, ◌/◌, ◌%◌, ◌^◌, ◌≤◌, ◌<◌}
 use lib.Bits.{bit_xor, xor_lt}
 use lib.ListN.{get_or}
 use Rattle.bits.specs.Bits.{value, bits}
-use Rattle.hamming.specs.Word.{checkBits, dataBits, parityOf, syndrome, flipAt, flip, fixOf, mend, decode}
-use Rattle.hamming.specs.Table.{standMark, eraseMark, entry_of, fixRow}
+use Rattle.hamming.specs.Word.{check_bits, data_bits, parity_of, syndrome, flip_at, flip, fix_of, mend, decode}
+use Rattle.hamming.specs.Table.{stand_mark, erase_mark, entry_of, fix_row}
 use Rattle.hamming.specs.declared.Decoded.TheVariants.{Read, Erased}
-use Rattle.hamming.proofs.Words.{expected, expected-lt, received-lt, syndrome-length, syndrome-is, data-value, flipped-data-value}
-use Rattle.hamming.proofs.Entries.{row_is, entry-erase, entry-stand, entry-flip}
+use Rattle.hamming.proofs.Words.{expected, expected_lt, received_lt, syndrome_length, syndrome_is, data_value, flipped_data_value}
+use Rattle.hamming.proofs.Entries.{row_is, entry_erase, entry_stand, entry_flip}
 
 module _ (n : ℕ) (l : 6 ≤ n) (m : n ≤ 8) (w : ℕ) where
   -- received parity plus expected parity, as a number: it has the bits of the syndrome, and is below 16
-  pub syndrome-of : (weight p : ℕ) → weight ≡ 2 ^ checkBits n → p ≡ value (parityOf n (bits (dataBits n) (w / weight)))
-      → (bits (checkBits n) (bit_xor (w % weight) p) ≡ syndrome n (bits n w)) × (bit_xor (w % weight) p < 16)
-  syndrome-of weight p e h =
-      rw (h, e) (syndrome-is n l m w, xor_lt 4 (w % 2 ^ checkBits n) (expected n l m w) (received-lt n l m w) (expected-lt n l m w))
+  pub syndrome_of : (weight p : ℕ) → weight ≡ 2 ^ check_bits n → p ≡ value (parity_of n (bits (data_bits n) (w / weight)))
+      → (bits (check_bits n) (bit_xor (w % weight) p) ≡ syndrome n (bits n w)) × (bit_xor (w % weight) p < 16)
+  syndrome_of weight p e h =
+      rw (h, e) (syndrome_is n l m w, xor_lt 4 (w % 2 ^ check_bits n) (expected n l m w) (received_lt n l m w) (expected_lt n l m w))
 
   -- the entry of the row there is the one of the word's syndrome
-  pub entry-is : (row : List ℕ) → row ≡ fixRow n → (z : ℕ) → bits (checkBits n) z ≡ syndrome n (bits n w) → z < 16
-      → get_or row z 0 ≡ entry_of (fixOf n (syndrome n (bits n w)))
-  entry-is row r z e h = ap (λ (x : List ℕ). get_or x z 0) r ∙ row_is n z h ∙ ap (λ (x : List Bool). entry_of (fixOf n x)) e
+  pub entry_is : (row : List ℕ) → row ≡ fix_row n → (z : ℕ) → bits (check_bits n) z ≡ syndrome n (bits n w) → z < 16
+      → get_or row z 0 ≡ entry_of (fix_of n (syndrome n (bits n w)))
+  entry_is row r z e h = ap (λ (x : List ℕ). get_or x z 0) r ∙ row_is n z h ∙ ap (λ (x : List Bool). entry_of (fix_of n x)) e
 
-  module _ (h : w < 2 ^ n) (fix : ℕ) (e : fix ≡ entry_of (fixOf n (syndrome n (bits n w)))) where
+  module _ (h : w < 2 ^ n) (fix : ℕ) (e : fix ≡ entry_of (fix_of n (syndrome n (bits n w)))) where
     -- the mark of an erasure
-    pub erase-is : fix ≡ eraseMark → Erased ≡ decode n (bits n w)
+    pub erase_is : fix ≡ erase_mark → Erased ≡ decode n (bits n w)
     unfolding decode
-    erase-is f = sym (ap (mend n (bits n w)) (entry-erase n l m _ (syndrome-length n l m w) (sym e ∙ f)))
+    erase_is f = sym (ap (mend n (bits n w)) (entry_erase n l m _ (syndrome_length n l m w) (sym e ∙ f)))
 
     -- the mark of a word that stands
-    pub stand-is : fix ≡ standMark → Read (w / 2 ^ checkBits n) 0 ≡ decode n (bits n w)
+    pub stand_is : fix ≡ stand_mark → Read (w / 2 ^ check_bits n) 0 ≡ decode n (bits n w)
     unfolding decode
-    stand-is f = ap (λ (x : ℕ). Read x 0) (sym (data-value n l m w h)) ∙ sym (ap (mend n (bits n w)) (entry-stand n l m _ (syndrome-length n l m w) (sym e ∙ f)))
+    stand_is f = ap (λ (x : ℕ). Read x 0) (sym (data_value n l m w h)) ∙ sym (ap (mend n (bits n w)) (entry_stand n l m _ (syndrome_length n l m w) (sym e ∙ f)))
 
-    module _ (a : fix ≡ eraseMark → ⊥) (b : fix ≡ standMark → ⊥) where
-      fix-flips : (fixOf n (syndrome n (bits n w)) ≡ flip (entry_of (fixOf n (syndrome n (bits n w))))) × (entry_of (fixOf n (syndrome n (bits n w))) < n)
-      fix-flips = entry-flip n l m _ (syndrome-length n l m w) (λ f. a (e ∙ f)) (λ f. b (e ∙ f))
+    module _ (a : fix ≡ erase_mark → ⊥) (b : fix ≡ stand_mark → ⊥) where
+      fix_flips : (fix_of n (syndrome n (bits n w)) ≡ flip (entry_of (fix_of n (syndrome n (bits n w))))) × (entry_of (fix_of n (syndrome n (bits n w))) < n)
+      fix_flips = entry_flip n l m _ (syndrome_length n l m w) (λ f. a (e ∙ f)) (λ f. b (e ∙ f))
 
       -- any other entry is a bit of the word
-      pub bit-lt : fix < n
-      bit-lt = rw e fix-flips.1
+      pub bit_lt : fix < n
+      bit_lt = rw e fix_flips.1
 
       -- which is flipped back
-      pub flip_is : (x : ℕ) → x ≡ value (flipAt fix (bits n w)) → Read (x / 2 ^ checkBits n) 1 ≡ decode n (bits n w)
+      pub flip_is : (x : ℕ) → x ≡ value (flip_at fix (bits n w)) → Read (x / 2 ^ check_bits n) 1 ≡ decode n (bits n w)
       unfolding decode
       flip_is x f =
-          ap (λ (y : ℕ). Read y 1) (ap (λ (y : ℕ). y / 2 ^ checkBits n) f ∙ sym (flipped-data-value n l m fix w))
-          ∙ sym (ap (mend n (bits n w)) (fix-flips.0 ∙ ap flip (sym e)))
+          ap (λ (y : ℕ). Read y 1) (ap (λ (y : ℕ). y / 2 ^ check_bits n) f ∙ sym (flipped_data_value n l m fix w))
+          ∙ sym (ap (mend n (bits n w)) (fix_flips.0 ∙ ap flip (sym e)))

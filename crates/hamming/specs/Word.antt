@@ -13,12 +13,12 @@ length_of Seven = 7
 length_of Eight = 8
 
 -- how many of them are parity bits: word A alone has p3
-abbrev pub checkBits : ℕ → ℕ
-checkBits n = cond (eqb n 8) 4 3
+abbrev pub check_bits : ℕ → ℕ
+check_bits n = cond (eqb n 8) 4 3
 
 -- how many of them are data bits
-abbrev pub dataBits : ℕ → ℕ
-dataBits n = n - checkBits n
+abbrev pub data_bits : ℕ → ℕ
+data_bits n = n - check_bits n
 
 -- the parity equations: p0 to p3 of four data bits u0 to u3
 abbrev pub parity : List Bool → List Bool
@@ -29,47 +29,47 @@ parity (u0 ∷ u1 ∷ u2 ∷ []) = []
 parity (u0 ∷ u1 ∷ u2 ∷ u3 ∷ us) = (u0 ⊻ u1 ⊻ u3) ∷ (u0 ⊻ u2 ⊻ u3) ∷ (u1 ⊻ u2 ⊻ u3) ∷ (u0 ⊻ u1 ⊻ u2) ∷ []
 
 -- the four bits that parity is taken of: word B's fourth is a spare 0 that is not sent
-abbrev pub withSpare : List Bool → List Bool
-withSpare d = take 4 (d ++ false ∷ [])
+abbrev pub with_spare : List Bool → List Bool
+with_spare d = take 4 (d ++ false ∷ [])
 
 -- the parity bits that a word of n bits sends with its data
-abbrev pub parityOf : ℕ → List Bool → List Bool
-parityOf n d = take (checkBits n) (parity (withSpare d))
+abbrev pub parity_of : ℕ → List Bool → List Bool
+parity_of n d = take (check_bits n) (parity (with_spare d))
 
 -- a word as it is sent: its data, then their parity
 abbrev pub encode : ℕ → List Bool → List Bool
-encode n d = d ++ parityOf n d
+encode n d = d ++ parity_of n d
 
 -- the data of a received word
 abbrev pub data_of : ℕ → List Bool → List Bool
-data_of n w = take (dataBits n) w
+data_of n w = take (data_bits n) w
 
 -- its syndrome: received parity plus the parity of the received data
 abbrev pub syndrome : ℕ → List Bool → List Bool
-syndrome n w = drop (dataBits n) w ⊕ parityOf n (data_of n w)
+syndrome n w = drop (data_bits n) w ⊕ parity_of n (data_of n w)
 
 -- a word with bit k, counted from the first, flipped
-abbrev pub flipAt : ℕ → List Bool → List Bool
-flipAt k [] = []
-flipAt zero (b ∷ bs) = not b ∷ bs
-flipAt (suc k) (b ∷ bs) = b ∷ flipAt k bs
+abbrev pub flip_at : ℕ → List Bool → List Bool
+flip_at k [] = []
+flip_at zero (b ∷ bs) = not b ∷ bs
+flip_at (suc k) (b ∷ bs) = b ∷ flip_at k bs
 
 -- the column of bit k: the syndrome of a word in which this bit alone is set
 abbrev pub column : ℕ → ℕ → List Bool
-column n k = syndrome n (flipAt k (replicate n false))
+column n k = syndrome n (flip_at k (replicate n false))
 
 -- the column of word B's spare: the parity that its fourth data bit, which is not sent, would leave
-abbrev pub spareColumn : List Bool
-spareColumn = parityOf 6 (false ∷ false ∷ false ∷ true ∷ [])
+abbrev pub spare_column : List Bool
+spare_column = parity_of 6 (false ∷ false ∷ false ∷ true ∷ [])
 
 -- which syndromes erase the frame: in word A a nonzero one with an even number of ones; in word B the column of the spare (document 02, T-02)
 abbrev pub erases : ℕ → List Bool → Bool
-erases n z = (eqb n 8 && (not (eqb (ones z) 0) && eqb (ones z % 2) 0)) || (eqb n 6 && same z spareColumn)
+erases n z = (eqb n 8 && (not (eqb (ones z) 0) && eqb (ones z % 2) 0)) || (eqb n 6 && same z spare_column)
 
 -- the first of m bits from k on whose column is z
-abbrev pub bitFrom : ℕ → List Bool → ℕ → ℕ → ℕ
-bitFrom n z zero k = k
-bitFrom n z (suc m) k = cond (same (column n k) z) k (bitFrom n z m (suc k))
+abbrev pub bit_from : ℕ → List Bool → ℕ → ℕ → ℕ
+bit_from n z zero k = k
+bit_from n z (suc m) k = cond (same (column n k) z) k (bit_from n z m (suc k))
 
 -- what a syndrome asks for: the word stands, bit k is flipped back, or the frame is erased
 pub data Fix : Type 0 where
@@ -78,21 +78,21 @@ pub data Fix : Type 0 where
   erase : Fix
 
 -- zero: the word stands; one that erases: erased; any other is the column of one of the n bits, which is flipped back
-unfoldable pub fixOf : ℕ → List Bool → Fix
-fixOf n z = cond (eqb (ones z) 0) stand (cond (erases n z) erase (flip (bitFrom n z n 0)))
+unfoldable pub fix_of : ℕ → List Bool → Fix
+fix_of n z = cond (eqb (ones z) 0) stand (cond (erases n z) erase (flip (bit_from n z n 0)))
 
 -- the outcome of the word when that is done: its data as a number, and 1 where a bit was repaired
 abbrev pub mend : ℕ → List Bool → Fix → Decoded
 mend n w stand = Read (value (data_of n w)) 0
-mend n w (flip k) = Read (value (data_of n (flipAt k w))) 1
+mend n w (flip k) = Read (value (data_of n (flip_at k w))) 1
 mend n w erase = Erased
 
 -- the outcome of a received word of n bits
 unfoldable pub decode : ℕ → List Bool → Decoded
-decode n w = mend n w (fixOf n (syndrome n w))
+decode n w = mend n w (fix_of n (syndrome n w))
 
 -- an outcome that fits a word of n bits, however it was chosen: data below two to the number of data bits, and no more bits repaired than there are.
 -- A helper of the code above
 abbrev pub Bounded : ℕ → Decoded → Type 0
-Bounded n (Read d k) = (d < 2 ^ dataBits n) × (k ≤ n)
+Bounded n (Read d k) = (d < 2 ^ data_bits n) × (k ≤ n)
 Bounded n Erased = Unit

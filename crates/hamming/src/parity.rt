@@ -1,7 +1,7 @@
 // The parity bits of a word.
 ghost use Rattle.std.specs.Prelude.{◌≡◌, ◌<◌};
 ghost use Rattle.bits.specs.Bits.{value, bits};
-ghost use Rattle.hamming.specs.Word.{length_of, dataBits, parity, parityOf};
+ghost use Rattle.hamming.specs.Word.{length_of, data_bits, parity, parity_of};
 
 use crate::WordLength;
 
@@ -16,7 +16,7 @@ fn all_parity(u: u8) -> u8
 // The parity bits of the data in the low bits of a number, p0 most significant. Only word A has p3, and
 // word B's fourth data bit is a spare 0.
 pub fn parity_of(length: WordLength, u: u8) -> u8
-    ensures { result ≡ value (parityOf (length_of length) (bits (dataBits (length_of length)) u)) }
+    ensures { result ≡ value (parity_of (length_of length) (bits (data_bits (length_of length)) u)) }
 {
     match length {
         WordLength::Six => all_parity(u % 8 * 2) / 2,

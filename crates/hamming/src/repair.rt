@@ -1,15 +1,15 @@
 // The outcome of a received word by its syndrome, which tells the bit to flip back, if any.
 ghost use Rattle.std.specs.Prelude.{◌≡◌, ◌≤◌, ◌<◌, ◌^◌};
 ghost use Rattle.bits.specs.Bits.{value, bits};
-ghost use Rattle.hamming.specs.Word.{length_of, checkBits, syndrome, flipAt, decode};
-ghost use Rattle.hamming.specs.Table.{fixRow};
+ghost use Rattle.hamming.specs.Word.{length_of, check_bits, syndrome, flip_at, decode};
+ghost use Rattle.hamming.specs.Table.{fix_row};
 
 use crate::parity::parity_of;
 use crate::{Decoded, WordLength};
 
 // The weight of the lowest data bit: the parity bits stand below it.
 fn data_weight(n: usize) -> u8
-    ensures equal { result ≡ 2 ^ checkBits n }
+    ensures equal { result ≡ 2 ^ check_bits n }
     ensures positive { 0 < result }
 {
     if n == 8 { 16 } else { 8 }
@@ -18,7 +18,7 @@ fn data_weight(n: usize) -> u8
 // The syndrome of a word of n bits: its parity bits plus the parity of its data.
 fn syndrome_of(length: WordLength, n: usize, word: u8) -> u8
     requires { n ≡ length_of length }
-    ensures number { bits (checkBits n) result ≡ syndrome n (bits n word) }
+    ensures number { bits (check_bits n) result ≡ syndrome n (bits n word) }
     ensures bound { result < 16 }
 {
     let weight = data_weight(n);
@@ -28,14 +28,14 @@ fn syndrome_of(length: WordLength, n: usize, word: u8) -> u8
 // A word of n bits with bit k, counted from the first, flipped.
 fn flipped(n: usize, word: u8, k: usize) -> u8
     requires { (6 ≤ n) × (n ≤ 8) × (k < n) × (word < 2 ^ n) }
-    ensures { result ≡ value (flipAt k (bits n word)) }
+    ensures { result ≡ value (flip_at k (bits n word)) }
 {
     word ^ (1 << (n - 1 - k))
 }
 
 // The outcome of a word of n bits: the table's row for such words is asked at its syndrome.
 fn decode_word(length: WordLength, n: usize, fixes: [u8; 16], word: u8) -> Decoded
-    requires { (n ≡ length_of length) × (word < 2 ^ n) × (fixes ≡ fixRow n) }
+    requires { (n ≡ length_of length) × (word < 2 ^ n) × (fixes ≡ fix_row n) }
     ensures { result ≡ decode n (bits n word) }
 {
     let fix = fixes[syndrome_of(length, n, word) as usize];

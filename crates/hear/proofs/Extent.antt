@@ -5,11 +5,11 @@ use Prim.Native.Nat.{ℕ, ◌≤◌}
 use native.Mathlib.Omega.{arith}
 use lib.ListN.{length, length-take}
 use lib.Seq.{take_all}
-use Rattle.receiver.specs.Frames.{framesIn}
-use Rattle.hear.specs.Call.{mostBytes, heard}
+use Rattle.receiver.specs.Frames.{frames_in}
+use Rattle.hear.specs.Call.{most_bytes, heard}
 
 pub heard_all : (input : List ℕ) → length input ≤ 65534 → heard input ≡ input
-heard_all input h = take_all mostBytes input (omega arith)
+heard_all input h = take_all most_bytes input (omega arith)
 
-pub frames-most : (input : List ℕ) → framesIn (heard input) ≤ 9362
-frames-most input = omega (arith, length-take mostBytes input)
+pub frames_most : (input : List ℕ) → frames_in (heard input) ≤ 9362
+frames_most input = omega (arith, length-take most_bytes input)

@@ -1,48 +1,48 @@
 -- Document 01, "Program hear": what is printed for the bytes of a call.
 use Rattle.std.specs.Prelude.{ℕ, zero, suc, ◌+◌, ◌*◌, ◌%◌, ◌≡◌, List, ◌++◌, length, take, drop}
 use Rattle.bits.specs.Lists.{ReadFrom}
-use Rattle.order.specs.Order.{defaultOrder}
+use Rattle.order.specs.Order.{default_order}
 use Rattle.receiver.specs.declared.Kind.{Kind}
 use Rattle.receiver.specs.declared.Kind.TheVariants.{Unvoiced, Voiced, Repeat}
 use Rattle.receiver.specs.declared.ReceiveAnswer.{ReceiveAnswer}
 use Rattle.receiver.specs.declared.ReceiveAnswer.TheVariants.{Result, Refused}
-use Rattle.receiver.specs.Frames.{framesIn, answerAt}
-use Rattle.report.specs.Lines.{firstLine, frameLine, lastLine}
+use Rattle.receiver.specs.Frames.{frames_in, answer_at}
+use Rattle.report.specs.Lines.{first_line, frame_line, last_line}
 
 -- the bytes after the last whole frame
-abbrev pub leftIn : List ℕ → ℕ
-leftIn bytes = length bytes % 7
+abbrev pub left_in : List ℕ → ℕ
+left_in bytes = length bytes % 7
 
 -- 1 for a frame of kind R
-abbrev pub repeatKind : Kind → ℕ
-repeatKind Unvoiced = 0
-repeatKind Voiced = 0
-repeatKind Repeat = 1
+abbrev pub repeat_kind : Kind → ℕ
+repeat_kind Unvoiced = 0
+repeat_kind Voiced = 0
+repeat_kind Repeat = 1
 
-abbrev pub repeatOf : ReceiveAnswer → ℕ
-repeatOf (Result r) = repeatKind r.kind
-repeatOf (Refused n) = 0
+abbrev pub repeat_of : ReceiveAnswer → ℕ
+repeat_of (Result r) = repeat_kind r.kind
+repeat_of (Refused n) = 0
 
 -- the first line and those of the first k frames
-unfoldable pub textBefore : List ℕ → ℕ → List ℕ
-textBefore bytes zero = firstLine
-textBefore bytes (suc k) = textBefore bytes k ++ frameLine k (answerAt defaultOrder bytes k)
+unfoldable pub text_before : List ℕ → ℕ → List ℕ
+text_before bytes zero = first_line
+text_before bytes (suc k) = text_before bytes k ++ frame_line k (answer_at default_order bytes k)
 
 -- how many of the first k frames are of kind R
-unfoldable pub repeatsBefore : List ℕ → ℕ → ℕ
-repeatsBefore bytes zero = 0
-repeatsBefore bytes (suc k) = repeatsBefore bytes k + repeatOf (answerAt defaultOrder bytes k)
+unfoldable pub repeats_before : List ℕ → ℕ → ℕ
+repeats_before bytes zero = 0
+repeats_before bytes (suc k) = repeats_before bytes k + repeat_of (answer_at default_order bytes k)
 
 -- all that is printed
 unfoldable pub text : List ℕ → List ℕ
-text bytes = textBefore bytes (framesIn bytes) ++ lastLine (framesIn bytes) (repeatsBefore bytes (framesIn bytes)) (leftIn bytes)
+text bytes = text_before bytes (frames_in bytes) ++ last_line (frames_in bytes) (repeats_before bytes (frames_in bytes)) (left_in bytes)
 
 -- what is heard of all of standard input: at most 9,362 frames; bytes past the 65,534 of those are neither read nor counted
-abbrev pub mostBytes : ℕ
-mostBytes = 7 * 9362
+abbrev pub most_bytes : ℕ
+most_bytes = 7 * 9362
 
 abbrev pub heard : List ℕ → List ℕ
-heard input = take mostBytes input
+heard input = take most_bytes input
 
 -- what is printed for it
 abbrev pub printed : List ℕ → List ℕ

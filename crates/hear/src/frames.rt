@@ -1,11 +1,11 @@
 // What the receiver makes of each frame, and its line.
 ghost use Rattle.std.specs.Prelude.{◌≡◌, suc, ◌+◌, ◌*◌, ◌≤◌, length};
-ghost use Rattle.order.specs.Order.{defaultOrder};
+ghost use Rattle.order.specs.Order.{default_order};
 ghost use Rattle.records.specs.Records.{fresh};
-ghost use Rattle.report.specs.Lines.{frameLine};
+ghost use Rattle.report.specs.Lines.{frame_line};
 ghost use Rattle.text.specs.Placing.{Appended};
-ghost use Rattle.receiver.specs.Frames.{recordAfter, answerAt};
-ghost use Rattle.hear.specs.Call.{repeatOf};
+ghost use Rattle.receiver.specs.Frames.{record_after, answer_at};
+ghost use Rattle.hear.specs.Call.{repeat_of};
 
 use crate::output::{Sent, nothing};
 use receiver::{Kind, ReceiveAnswer};
@@ -39,7 +39,7 @@ pub(crate) fn begin(end: usize) -> Progress
 
 // 1 for a repeat, 0 for any other answer.
 fn repeat_of(answer: ReceiveAnswer) -> u64
-    ensures equal { result ≡ repeatOf answer }
+    ensures equal { result ≡ repeat_of answer }
     ensures bound { result ≤ 1 }
 {
     match answer {
@@ -58,12 +58,12 @@ fn repeat_of(answer: ReceiveAnswer) -> u64
 // Frame k: the receiver takes it, and its line is written.
 pub(crate) fn take_frame(before: Progress, bytes: &[u8], k: usize, out: &mut [u8]) -> Progress
     requires k_in_bounds { (7 * suc k ≤ length bytes.now) × (before.end + 144 ≤ length out.old) × (before.repeats ≤ k) }
-    requires rec_value { before.rec ≡ recordAfter defaultOrder bytes.now k }
-    ensures record { result.rec ≡ recordAfter defaultOrder bytes.now (suc k) }
-    ensures repeats { result.repeats ≡ before.repeats + repeatOf (answerAt defaultOrder bytes.now k) }
+    requires rec_value { before.rec ≡ record_after default_order bytes.now k }
+    ensures record { result.rec ≡ record_after default_order bytes.now (suc k) }
+    ensures repeats { result.repeats ≡ before.repeats + repeat_of (answer_at default_order bytes.now k) }
     ensures count { result.repeats ≤ suc k }
     ensures sent { result.sent.count ≡ before.sent.count }
-    ensures line { Appended out.old before.end (frameLine k (answerAt defaultOrder bytes.now k)) out.new result.end }
+    ensures line { Appended out.old before.end (frame_line k (answer_at default_order bytes.now k)) out.new result.end }
     ensures bound { result.end ≤ before.end + 144 }
 {
     let rec = before.rec;

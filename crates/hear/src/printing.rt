@@ -1,8 +1,8 @@
 // The text of a call, sent in large parts.
 ghost use Rattle.std.specs.Prelude.{◌≡◌, ◌+◌, ◌≤◌, length};
 ghost use Rattle.io.specs.Counts.{IsPrefixLen};
-ghost use Rattle.receiver.specs.Frames.{framesIn};
-ghost use Rattle.hear.specs.Call.{repeatsBefore, textBefore, text, mostBytes, AllPrinted, Pending};
+ghost use Rattle.receiver.specs.Frames.{frames_in};
+ghost use Rattle.hear.specs.Call.{repeats_before, text_before, text, most_bytes, AllPrinted, Pending};
 
 use crate::frames::{Progress, begin, take_frame};
 use crate::output::{Sent, send};
@@ -10,11 +10,11 @@ use text::end_of;
 
 // Room for a line more: a buffer that is nearly full is sent.
 fn make_room(before: Progress, bytes: &[u8], k: usize, out: &[u8]) -> Progress
-    requires k_bound { (k ≤ framesIn bytes.now) × Pending (textBefore bytes.now k) before.sent.count before.end out.now }
+    requires k_bound { (k ≤ frames_in bytes.now) × Pending (text_before bytes.now k) before.sent.count before.end out.now }
     requires out_len { (length out.now ≡ 65536) × (before.end ≤ 65536) × (before.sent.count + before.end ≤ 2000000) }
     ensures record { result.rec ≡ before.rec }
     ensures repeats { result.repeats ≡ before.repeats }
-    ensures pending { Pending (textBefore bytes.now k) result.sent.count result.end out.now }
+    ensures pending { Pending (text_before bytes.now k) result.sent.count result.end out.now }
     ensures room { result.end + 144 ≤ 65536 }
 {
     if before.end <= 65392 {
@@ -32,10 +32,10 @@ fn make_room(before: Progress, bytes: &[u8], k: usize, out: &[u8]) -> Progress
 
 // All whole frames; the first line waits in the buffer.
 fn print_frames(bytes: &[u8], out: &mut [u8], end: usize) -> Progress
-    requires { (length bytes.now ≤ 65534) × (length out.old ≡ 65536) × Pending (textBefore bytes.now 0) 0 end out.old }
-    ensures repeats { result.repeats ≡ repeatsBefore bytes.now (framesIn bytes.now) }
+    requires { (length bytes.now ≤ 65534) × (length out.old ≡ 65536) × Pending (text_before bytes.now 0) 0 end out.old }
+    ensures repeats { result.repeats ≡ repeats_before bytes.now (frames_in bytes.now) }
     ensures count { result.sent.count + result.end ≤ 1400000 }
-    ensures pending { Pending (textBefore bytes.now (framesIn bytes.now)) result.sent.count result.end out.new }
+    ensures pending { Pending (text_before bytes.now (frames_in bytes.now)) result.sent.count result.end out.new }
     ensures bound { result.end ≤ 65536 }
 {
     let mut progress = begin(end);
@@ -64,7 +64,7 @@ fn print_text(bytes: &[u8], out: &mut [u8]) -> Sent
 
 // All that is printed for the standard input of which the first `size` bytes of a buffer for 9,362 frames were read.
 pub(crate) fn print_call(input: &[u8], size: usize) -> Sent
-    requires { (length input.now ≡ mostBytes) × IsPrefixLen size input.now }
+    requires { (length input.now ≡ most_bytes) × IsPrefixLen size input.now }
     ensures { AllPrinted input.now size result.count }
 {
     let mut out = io::large_buffer();

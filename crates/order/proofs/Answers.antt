@@ -9,21 +9,21 @@ use lib.Dec.{eqb}
 use lib.ListN.{length, get_or}
 use borrow.Author.Tests.{eq-eqb, ne_eqb}
 use Rattle.bits.specs.Bits.{ones, value, cut, carried}
-use Rattle.bits.specs.Refusals.{firstRefusal}
-use Rattle.bits.proofs.Cut.{cut-ext}
-use Rattle.bits.proofs.Numbers.{value-more, carried-back}
-use Rattle.order.specs.Order.{Order, is_order, placeOf, bit_at, logicalBit, padding, frameRefusal}
-use Rattle.order.specs.Taking.{bitsNumber, bitsUnless, bitsAnswer}
+use Rattle.bits.specs.Refusals.{first_refusal}
+use Rattle.bits.proofs.Cut.{cut_ext}
+use Rattle.bits.proofs.Numbers.{value_more, carried_back}
+use Rattle.order.specs.Order.{Order, is_order, place_of, bit_at, logical_bit, padding, frame_refusal}
+use Rattle.order.specs.Taking.{bits_number, bits_unless, bits_answer}
 use Rattle.order.specs.declared.BitsAnswer.TheVariants.{Bits, Refused}
-use Rattle.order.proofs.Bytes.{byte-back, padding-is}
-use Rattle.order.proofs.Places.{place-lt}
+use Rattle.order.proofs.Bytes.{byte_back, padding_is}
+use Rattle.order.proofs.Places.{place_lt}
 
 -- two bits have no ones where they stand for 0
-ones-value-zero : (x y : Bool) → eqb (ones (x ∷ y ∷ [])) 0 ≡ eqb (value (x ∷ y ∷ [])) 0
-ones-value-zero true true = refl
-ones-value-zero true false = refl
-ones-value-zero false true = refl
-ones-value-zero false false = refl
+ones_value_zero : (x y : Bool) → eqb (ones (x ∷ y ∷ [])) 0 ≡ eqb (value (x ∷ y ∷ [])) 0
+ones_value_zero true true = refl
+ones_value_zero true false = refl
+ones_value_zero false true = refl
+ones_value_zero false false = refl
 
 module _ (bytes : List ℕ) where
   -- one byte more of those from a byte on
@@ -32,68 +32,68 @@ module _ (bytes : List ℕ) where
   byte_more first i x l h e =
       let at : 8 * first + 8 * (i - first) ≡ 8 * i = omega arith in
       let more : 8 * (i - first) + 8 ≡ 8 * (i + 1 - first) = omega arith in
-      value-more (bit_at bytes) (8 * first) (8 * (i - first)) 8 x (get_or bytes i 0) e
-      (sym (byte-back bytes i h) ∙ ap (λ (k : ℕ). value (cut (bit_at bytes) k 8)) (sym at))
+      value_more (bit_at bytes) (8 * first) (8 * (i - first)) 8 x (get_or bytes i 0) e
+      (sym (byte_back bytes i h) ∙ ap (λ (k : ℕ). value (cut (bit_at bytes) k 8)) (sym at))
       ∙ ap (λ (n : ℕ). value (cut (bit_at bytes) (8 * first) n)) more
 
   -- four bytes, two and one are all 56 places
-  pub bytes-all : (x y z : ℕ) → x ≡ value (cut (bit_at bytes) 0 32) → y ≡ value (cut (bit_at bytes) 32 16) → z ≡ value (cut (bit_at bytes) 48 8)
+  pub bytes_all : (x y z : ℕ) → x ≡ value (cut (bit_at bytes) 0 32) → y ≡ value (cut (bit_at bytes) 32 16) → z ≡ value (cut (bit_at bytes) 48 8)
       → (x * 65536 + y) * 256 + z ≡ value (cut (bit_at bytes) 0 56)
-  bytes-all x y z e f g =
-      value-more (bit_at bytes) 0 48 8 (x * 65536 + y) z (value-more (bit_at bytes) 0 32 16 x y e f) g
+  bytes_all x y z e f g =
+      value_more (bit_at bytes) 0 48 8 (x * 65536 + y) z (value_more (bit_at bytes) 0 32 16 x y e f) g
 
   -- the padding is clear where the last byte is a multiple of 4
-  padding-test : eqb (ones (padding bytes)) 0 ≡ eqb (get_or bytes 6 0 % 4) 0
-  padding-test = ones-value-zero (bit_at bytes 54) (bit_at bytes 55) ∙ ap (λ (x : ℕ). eqb x 0) (padding-is bytes)
+  padding_test : eqb (ones (padding bytes)) 0 ≡ eqb (get_or bytes 6 0 % 4) 0
+  padding_test = ones_value_zero (bit_at bytes 54) (bit_at bytes 55) ∙ ap (λ (x : ℕ). eqb x 0) (padding_is bytes)
 
   module _ (ord : List ℕ) where
     -- the logical bits of the number that the places make are those of the bytes
-    pub logical-is : Order ord → (w : ℕ) → w ≡ value (cut (bit_at bytes) 0 56)
-        → cut (λ j. carried 56 w (placeOf ord j)) 0 54 ≡ cut (logicalBit ord bytes) 0 54
-    logical-is o w e =
-        cut-ext (λ j. carried 56 w (placeOf ord j)) (logicalBit ord bytes) 0 54
-        (λ j a b. carried-back 56 (bit_at bytes) w (placeOf ord j) e (omega (arith, place-lt ord o j (omega arith))))
+    pub logical_is : Order ord → (w : ℕ) → w ≡ value (cut (bit_at bytes) 0 56)
+        → cut (λ j. carried 56 w (place_of ord j)) 0 54 ≡ cut (logical_bit ord bytes) 0 54
+    logical_is o w e =
+        cut_ext (λ j. carried 56 w (place_of ord j)) (logical_bit ord bytes) 0 54
+        (λ j a b. carried_back 56 (bit_at bytes) w (place_of ord j) e (omega (arith, place_lt ord o j (omega arith))))
 
     -- the answer by what the table tests
     owes : (a b c : Bool) → eqb (length bytes) 7 ≡ a → is_order ord ≡ b → eqb (get_or bytes 6 0 % 4) 0 ≡ c
-        → bitsUnless (firstRefusal ((not a, 2) ∷ (not b, 10) ∷ (not c, 3) ∷ [])) ord bytes ≡ bitsAnswer ord bytes
-    unfolding bitsAnswer
+        → bits_unless (first_refusal ((not a, 2) ∷ (not b, 10) ∷ (not c, 3) ∷ [])) ord bytes ≡ bits_answer ord bytes
+    unfolding bits_answer
     owes a b c e f p =
-        let p' = padding-test ∙ p in
-        sym (λ i. bitsUnless (firstRefusal ((not (e i), 2) ∷ (not (f i), 10) ∷ (not (p' i), 3) ∷ [])) ord bytes)
+        let p' = padding_test ∙ p in
+        sym (λ i. bits_unless (first_refusal ((not (e i), 2) ∷ (not (f i), 10) ∷ (not (p' i), 3) ∷ [])) ord bytes)
 
     -- a frame of another length
-    pub length-owes : (length bytes ≡ 7 → ⊥) → Refused 2 ≡ bitsAnswer ord bytes
-    length-owes h = owes false (is_order ord) (eqb (get_or bytes 6 0 % 4) 0) (ne_eqb (length bytes) 7 h) refl refl
+    pub length_owes : (length bytes ≡ 7 → ⊥) → Refused 2 ≡ bits_answer ord bytes
+    length_owes h = owes false (is_order ord) (eqb (get_or bytes 6 0 % 4) 0) (ne_eqb (length bytes) 7 h) refl refl
 
     module _ (h : length bytes ≡ 7) where
       -- a list that is no order
-      pub order-owes : is_order ord ≡ false → Refused 10 ≡ bitsAnswer ord bytes
-      order-owes f = owes true false (eqb (get_or bytes 6 0 % 4) 0) (eq-eqb (length bytes) 7 h) f refl
+      pub order_owes : is_order ord ≡ false → Refused 10 ≡ bits_answer ord bytes
+      order_owes f = owes true false (eqb (get_or bytes 6 0 % 4) 0) (eq-eqb (length bytes) 7 h) f refl
 
       -- a set bit in the padding
-      pub padding-owes : is_order ord ≡ true → (get_or bytes 6 0 % 4 ≡ 0 → ⊥) → Refused 3 ≡ bitsAnswer ord bytes
-      padding-owes f p = owes true true false (eq-eqb (length bytes) 7 h) f (ne_eqb (get_or bytes 6 0 % 4) 0 p)
+      pub padding_owes : is_order ord ≡ true → (get_or bytes 6 0 % 4 ≡ 0 → ⊥) → Refused 3 ≡ bits_answer ord bytes
+      padding_owes f p = owes true true false (eq-eqb (length bytes) 7 h) f (ne_eqb (get_or bytes 6 0 % 4) 0 p)
 
       -- the 54 bits
-      pub bits-owes : is_order ord ≡ true → get_or bytes 6 0 % 4 ≡ 0 → (w : ℕ) → w ≡ bitsNumber ord bytes → Bits w ≡ bitsAnswer ord bytes
-      bits-owes f p w e = ap Bits e ∙ owes true true true (eq-eqb (length bytes) 7 h) f (eq-eqb (get_or bytes 6 0 % 4) 0 p)
+      pub bits_owes : is_order ord ≡ true → get_or bytes 6 0 % 4 ≡ 0 → (w : ℕ) → w ≡ bits_number ord bytes → Bits w ≡ bits_answer ord bytes
+      bits_owes f p w e = ap Bits e ∙ owes true true true (eq-eqb (length bytes) 7 h) f (eq-eqb (get_or bytes 6 0 % 4) 0 p)
 
 module _ (ord bytes : List ℕ) where
   -- bits are taken from a frame that is not refused, and are its logical bits
-  pub bits-taken : (n : ℕ) → bitsAnswer ord bytes ≡ Bits n → (frameRefusal ord bytes ≡ 0) × (n ≡ bitsNumber ord bytes)
-  unfolding bitsAnswer
-  bits-taken n e = go (frameRefusal ord bytes) refl e
+  pub bits_taken : (n : ℕ) → bits_answer ord bytes ≡ Bits n → (frame_refusal ord bytes ≡ 0) × (n ≡ bits_number ord bytes)
+  unfolding bits_answer
+  bits_taken n e = go (frame_refusal ord bytes) refl e
     where
-      go : (m : ℕ) → frameRefusal ord bytes ≡ m → bitsUnless m ord bytes ≡ Bits n → (frameRefusal ord bytes ≡ 0) × (n ≡ bitsNumber ord bytes)
+      go : (m : ℕ) → frame_refusal ord bytes ≡ m → bits_unless m ord bytes ≡ Bits n → (frame_refusal ord bytes ≡ 0) × (n ≡ bits_number ord bytes)
       go zero f e = (f, cc)
       go (suc m) f e = let z : ◌≡◌ {A = ℕ} 0 1 = cc in absurd (omega arith)
 
   -- and from no other
-  pub bits-refused : (n : ℕ) → bitsAnswer ord bytes ≡ Refused n → (m : ℕ) × (frameRefusal ord bytes ≡ suc m) × (n ≡ suc m)
-  unfolding bitsAnswer
-  bits-refused n e = go (frameRefusal ord bytes) refl e
+  pub bits_refused : (n : ℕ) → bits_answer ord bytes ≡ Refused n → (m : ℕ) × (frame_refusal ord bytes ≡ suc m) × (n ≡ suc m)
+  unfolding bits_answer
+  bits_refused n e = go (frame_refusal ord bytes) refl e
     where
-      go : (k : ℕ) → frameRefusal ord bytes ≡ k → bitsUnless k ord bytes ≡ Refused n → (m : ℕ) × (frameRefusal ord bytes ≡ suc m) × (n ≡ suc m)
+      go : (k : ℕ) → frame_refusal ord bytes ≡ k → bits_unless k ord bytes ≡ Refused n → (m : ℕ) × (frame_refusal ord bytes ≡ suc m) × (n ≡ suc m)
       go zero f e = let z : ◌≡◌ {A = ℕ} 0 1 = cc in absurd (omega arith)
       go (suc m) f e = (m, f, cc)

@@ -8,11 +8,11 @@ use native.Mathlib.Omega.{arith}
 use lib.Arith.{digits_mod}
 use lib.Dec.{leb, lit<}
 use borrow.Author.Tests.{leb-true, leb-false}
-use Rattle.order.specs.Carrying.{nextPlace, carriedPlace, CarriedPlaces}
+use Rattle.order.specs.Carrying.{next_place, carried_place, CarriedPlaces}
 
 -- the place after that of logical bit j
-next-is : (j : ℕ) → nextPlace (7 * j % 54) ≡ 7 * suc j % 54
-next-is j = go (leb 54 (7 * j % 54 + 7)) refl
+next_is : (j : ℕ) → next_place (7 * j % 54) ≡ 7 * suc j % 54
+next_is j = go (leb 54 (7 * j % 54 + 7)) refl
   where
     -- a number by its quotient and its remainder has that remainder
     remainder : (q r : ℕ) → r < 54 → q * 54 + r ≡ 7 * suc j → r ≡ 7 * suc j % 54
@@ -23,16 +23,16 @@ next-is j = go (leb 54 (7 * j % 54 + 7)) refl
     go false e = remainder (7 * j / 54) (7 * j % 54 + 7) (leb-false 54 (7 * j % 54 + 7) e) (omega arith)
 
 -- at every logical bit, by induction
-pub carried-places : CarriedPlaces
-unfolding carriedPlace
-carried-places zero = refl
-carried-places (suc j) = ap nextPlace (carried-places j) ∙ next-is j
+pub carried_places : CarriedPlaces
+unfolding carried_place
+carried_places zero = refl
+carried_places (suc j) = ap next_place (carried_places j) ∙ next_is j
 
 -- one bit more: the next place is the one carried to it
-pub carried-more : (n m place : ℕ) → m ≡ suc n → place ≡ carriedPlace n → nextPlace place ≡ carriedPlace m
-unfolding carriedPlace
-carried-more n m place e p = ap nextPlace p ∙ ap carriedPlace (sym e)
+pub carried_more : (n m place : ℕ) → m ≡ suc n → place ≡ carried_place n → next_place place ≡ carried_place m
+unfolding carried_place
+carried_more n m place e p = ap next_place p ∙ ap carried_place (sym e)
 
 -- a carried place is a place
-pub carried-lt : (j : ℕ) → carriedPlace j < 54
-carried-lt j = subst⁻¹ (λ (t : ℕ). t < 54) (carried-places j) (mod-lt (7 * j) (lit< tt))
+pub carried_lt : (j : ℕ) → carried_place j < 54
+carried_lt j = subst⁻¹ (λ (t : ℕ). t < 54) (carried_places j) (mod-lt (7 * j) (lit< tt))

@@ -8,12 +8,12 @@ use native.Mathlib.Omega.{arith}
 use lib.Dec.{lit<}
 use Rattle.bits.specs.Bits.{value, bit, bits, cut, carried}
 use Rattle.bits.proofs.Bitwise.{zero_bit}
-use Rattle.bits.proofs.Cut.{cut-ext, cut-getD}
-use Rattle.bits.proofs.Digits.{value-bits, bits_at}
-use Rattle.bits.proofs.Tests.{every-at}
-use Rattle.order.specs.Order.{defaultOrder, placeOf}
-use Rattle.order.proofs.DefaultOrder.{default-place}
-use Rattle.order.proofs.Moves.{Move, up, down, moved, comes, moved-bit, moved-lt}
+use Rattle.bits.proofs.Cut.{cut_ext, cut_get_or}
+use Rattle.bits.proofs.Digits.{value_bits, bits_at}
+use Rattle.bits.proofs.Tests.{every_at}
+use Rattle.order.specs.Order.{default_order, place_of}
+use Rattle.order.proofs.DefaultOrder.{default_place}
+use Rattle.order.proofs.Moves.{Move, up, down, moved, comes, moved_bit, moved_lt}
 
 -- the code's moves: logical bit j stands at bit 53 - j, its place at bit 55 - 7 × j modulo 54
 abbrev pub moves : List Move
@@ -40,18 +40,18 @@ module _ (p : ℕ) where
   taken = moved moves p 0
 
   -- each logical bit comes from its place
-  bit-taken : (j : ℕ) → j < 54 → carried 54 taken j ≡ carried 56 p (placeOf defaultOrder j)
-  bit-taken j h =
+  bit_taken : (j : ℕ) → j < 54 → carried 54 taken j ≡ carried 56 p (place_of default_order j)
+  bit_taken j h =
       let t : ℕ = 7 * j % 54 in
       let l : t < 56 = omega arith in
       bits_at 54 j taken h
-      ∙ moved-bit moves (54 - suc j) (56 - suc t) p 0 false (omega arith)
-      (every-at 54 (λ j. comes moves (54 - suc j) (56 - suc (7 * j % 54)) false) tt j h) (zero_bit (54 - suc j))
+      ∙ moved_bit moves (54 - suc j) (56 - suc t) p 0 false (omega arith)
+      (every_at 54 (λ j. comes moves (54 - suc j) (56 - suc (7 * j % 54)) false) tt j h) (zero_bit (54 - suc j))
       ∙ sym (bits_at 56 t p l)
-      ∙ ap (carried 56 p) (sym (default-place j h))
+      ∙ ap (carried 56 p) (sym (default_place j h))
 
   -- so together they are the logical bits
-  pub taken_is : taken ≡ value (cut (λ j. carried 56 p (placeOf defaultOrder j)) 0 54)
+  pub taken_is : taken ≡ value (cut (λ j. carried 56 p (place_of default_order j)) 0 54)
   taken_is =
-      sym (value-bits 54 taken (moved-lt 54 moves p 0 tt (lit< tt)))
-      ∙ ap value (sym (cut-getD false (bits 54 taken)) ∙ cut-ext (carried 54 taken) (λ j. carried 56 p (placeOf defaultOrder j)) 0 54 (λ j l h. bit-taken j h))
+      sym (value_bits 54 taken (moved_lt 54 moves p 0 tt (lit< tt)))
+      ∙ ap value (sym (cut_get_or false (bits 54 taken)) ∙ cut_ext (carried 54 taken) (λ j. carried 56 p (place_of default_order j)) 0 54 (λ j l h. bit_taken j h))

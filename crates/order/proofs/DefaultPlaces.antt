@@ -10,13 +10,13 @@ use lib.ListN.{get_or}
 use borrow.Author.Tests.{ltb-true, ltb-false}
 use Rattle.bits.specs.Bits.{value, bits, cut, carried}
 use Rattle.bits.proofs.Bitwise.{zero_bit}
-use Rattle.bits.proofs.Cut.{cut-ext, cut-getD}
-use Rattle.bits.proofs.Digits.{value-bits, bits_at}
-use Rattle.bits.proofs.Tests.{every-at}
-use Rattle.order.specs.Order.{placeOf, order_by, defaultOrder, placed}
-use Rattle.order.proofs.DefaultOrder.{default-order}
+use Rattle.bits.proofs.Cut.{cut_ext, cut_get_or}
+use Rattle.bits.proofs.Digits.{value_bits, bits_at}
+use Rattle.bits.proofs.Tests.{every_at}
+use Rattle.order.specs.Order.{place_of, order_by, default_order, placed}
+use Rattle.order.proofs.DefaultOrder.{default_order_lem}
 use Rattle.order.proofs.Places.{entry_lt}
-use Rattle.order.proofs.Moves.{Move, up, down, moved, comes, unnamed, moved-bit, moved-stays, moved-lt}
+use Rattle.order.proofs.Moves.{Move, up, down, moved, comes, unnamed, moved_bit, moved_stays, moved_lt}
 
 -- the code's moves, those of taking the other way round: place t stands at bit 55 - t, the bit that it gets at bit 53 less its number
 abbrev pub moves : List Move
@@ -43,30 +43,30 @@ module _ (p : ℕ) where
   put = moved moves p 0
 
   -- each place gets the bit that the order names
-  place-put : (t : ℕ) → t < 54 → carried 56 put t ≡ carried 54 p (get_or defaultOrder t 0)
-  unfolding placeOf order_by defaultOrder
-  place-put t h =
+  place_put : (t : ℕ) → t < 54 → carried 56 put t ≡ carried 54 p (get_or default_order t 0)
+  unfolding place_of order_by default_order
+  place_put t h =
       let l : t < 56 = omega arith in
       bits_at 56 t put l
-      ∙ moved-bit moves (56 - suc t) (54 - suc (get_or defaultOrder t 0)) p 0 false (omega arith)
-      (every-at 54 (λ t. comes moves (56 - suc t) (54 - suc (get_or defaultOrder t 0)) false) tt t h) (zero_bit (56 - suc t))
-      ∙ sym (bits_at 54 (get_or defaultOrder t 0) p (entry_lt defaultOrder default-order t h))
+      ∙ moved_bit moves (56 - suc t) (54 - suc (get_or default_order t 0)) p 0 false (omega arith)
+      (every_at 54 (λ t. comes moves (56 - suc t) (54 - suc (get_or default_order t 0)) false) tt t h) (zero_bit (56 - suc t))
+      ∙ sym (bits_at 54 (get_or default_order t 0) p (entry_lt default_order default_order_lem t h))
 
   -- the two past the last get none
-  past-put : (t : ℕ) → 54 ≤ t → t < 56 → carried 56 put t ≡ false
-  past-put t l h =
+  past_put : (t : ℕ) → 54 ≤ t → t < 56 → carried 56 put t ≡ false
+  past_put t l h =
       let k : ℕ = 56 - suc t in
-      bits_at 56 t put h ∙ moved-stays k moves p 0 (every-at 2 (λ k. unnamed k moves) tt k (omega arith)) ∙ zero_bit k
+      bits_at 56 t put h ∙ moved_stays k moves p 0 (every_at 2 (λ k. unnamed k moves) tt k (omega arith)) ∙ zero_bit k
 
-  at : (t : ℕ) → t < 56 → carried 56 put t ≡ placed defaultOrder (carried 54 p) t
+  at : (t : ℕ) → t < 56 → carried 56 put t ≡ placed default_order (carried 54 p) t
   at t h = go (ltb t 54) refl
     where
-      go : (b : Bool) → ltb t 54 ≡ b → carried 56 put t ≡ cond b (carried 54 p (get_or defaultOrder t 0)) false
-      go true e = place-put t (ltb-true t 54 e)
-      go false e = past-put t (ltb-false t 54 e) h
+      go : (b : Bool) → ltb t 54 ≡ b → carried 56 put t ≡ cond b (carried 54 p (get_or default_order t 0)) false
+      go true e = place_put t (ltb-true t 54 e)
+      go false e = past_put t (ltb-false t 54 e) h
 
   -- so together they are the places
-  pub put_is : put ≡ value (cut (placed defaultOrder (carried 54 p)) 0 56)
+  pub put_is : put ≡ value (cut (placed default_order (carried 54 p)) 0 56)
   put_is =
-      sym (value-bits 56 put (moved-lt 56 moves p 0 tt (lit< tt)))
-      ∙ ap value (sym (cut-getD false (bits 56 put)) ∙ cut-ext (carried 56 put) (placed defaultOrder (carried 54 p)) 0 56 (λ t l h. at t h))
+      sym (value_bits 56 put (moved_lt 56 moves p 0 tt (lit< tt)))
+      ∙ ap value (sym (cut_get_or false (bits 56 put)) ∙ cut_ext (carried 56 put) (placed default_order (carried 54 p)) 0 56 (λ t l h. at t h))

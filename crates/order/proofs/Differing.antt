@@ -14,29 +14,29 @@ use borrow.Author.Tests.{eq-eqb, ne_eqb, eqb-true, eqb-false}
 use Rattle.order.specs.Listing.{same_numbers}
 
 -- two numbers that no bit is set in
-or-none : (a b : ℕ) → bit_or a b ≡ 0 → (a ≡ 0) × (b ≡ 0)
-or-none a b z = (omega (arith, or_add_and a b, and_le_r a b), omega (arith, or_add_and a b, and_le_l a b))
+or_none : (a b : ℕ) → bit_or a b ≡ 0 → (a ≡ 0) × (b ≡ 0)
+or_none a b z = (omega (arith, or_add_and a b, and_le_r a b), omega (arith, or_add_and a b, and_le_l a b))
 
 -- two numbers that differ in no bit
-xor-none : (a b : ℕ) → bit_xor a b ≡ 0 → a ≡ b
-xor-none a b z = omega (arith, xor_add_and a b, and_le_l a b, and_le_r a b)
+xor_none : (a b : ℕ) → bit_xor a b ≡ 0 → a ≡ b
+xor_none a b z = omega (arith, xor_add_and a b, and_le_l a b, and_le_r a b)
 
 -- no bit is set so far nor in what differs of two numbers: none so far, and they are equal
-differ-none : (d x y : ℕ) → eqb (bit_or d (bit_xor x y)) 0 ≡ (eqb d 0 && eqb x y)
-differ-none d x y = go (eqb d 0) (eqb x y) refl refl
+differ_none : (d x y : ℕ) → eqb (bit_or d (bit_xor x y)) 0 ≡ (eqb d 0 && eqb x y)
+differ_none d x y = go (eqb d 0) (eqb x y) refl refl
   where
     all : ℕ
     all = bit_or d (bit_xor x y)
 
     go : (a b : Bool) → eqb d 0 ≡ a → eqb x y ≡ b → eqb all 0 ≡ (a && b)
     go true true ea eb = eq-eqb all 0 (ap₂ (λ (p q : ℕ). bit_or p (bit_xor x q)) (eqb-true d 0 ea) (sym (eqb-true x y eb)) ∙ xor_self x)
-    go true false ea eb = ne_eqb all 0 (λ z. eqb-false x y eb (xor-none x y (or-none d (bit_xor x y) z).1))
-    go false b ea eb = ne_eqb all 0 (λ z. eqb-false d 0 ea (or-none d (bit_xor x y) z).0)
+    go true false ea eb = ne_eqb all 0 (λ z. eqb-false x y eb (xor_none x y (or_none d (bit_xor x y) z).1))
+    go false b ea eb = ne_eqb all 0 (λ z. eqb-false d 0 ea (or_none d (bit_xor x y) z).0)
 
 -- one entry more of two lists compared, and what is left of them
-pub differ-next : (d : ℕ) (xs ys : List ℕ) (t : ℕ) → t < length xs → t < length ys
+pub differ_next : (d : ℕ) (xs ys : List ℕ) (t : ℕ) → t < length xs → t < length ys
     → (eqb (bit_or d (bit_xor (get_or xs t 0) (get_or ys t 0))) 0 && same_numbers (drop (t + 1) xs) (drop (t + 1) ys)) ≡ (eqb d 0 && same_numbers (drop t xs) (drop t ys))
-differ-next d xs ys t h k =
-    ap (λ (b : Bool). b && same_numbers (drop (t + 1) xs) (drop (t + 1) ys)) (differ-none d (get_or xs t 0) (get_or ys t 0))
+differ_next d xs ys t h k =
+    ap (λ (b : Bool). b && same_numbers (drop (t + 1) xs) (drop (t + 1) ys)) (differ_none d (get_or xs t 0) (get_or ys t 0))
     ∙ and_assoc (eqb d 0) (eqb (get_or xs t 0) (get_or ys t 0)) (same_numbers (drop (t + 1) xs) (drop (t + 1) ys))
     ∙ rw add-one (ap₂ (λ (l m : List ℕ). eqb d 0 && same_numbers l m) (sym (drop-cons xs t 0 h)) (sym (drop-cons ys t 0 k)))

@@ -5,8 +5,8 @@ use mathlib.Core.Bool.{Bool}
 use mathlib.Core.List.{[], ◌∷◌, ◌++◌}
 use Prim.Native.Nat.{ℕ}
 use Rattle.bits.specs.Bits.{cut}
-use Rattle.order.specs.Fields.{wordA, wordB, wordC, wordD, pitchBits, l2Bits, l3Bits, l4Bits, syncBit}
+use Rattle.order.specs.Fields.{word_a, word_b, word_c, word_d, pitch_bits, l2_bits, l3_bits, l4_bits, sync_bit}
 
-pub fields-all : (g : ℕ → Bool)
-    → wordA g ++ wordB g ++ wordC g ++ wordD g ++ pitchBits g ++ l2Bits g ++ l3Bits g ++ l4Bits g ++ syncBit g ∷ [] ≡ cut g 0 54
-fields-all g = refl
+pub fields_all : (g : ℕ → Bool)
+    → word_a g ++ word_b g ++ word_c g ++ word_d g ++ pitch_bits g ++ l2_bits g ++ l3_bits g ++ l4_bits g ++ sync_bit g ∷ [] ≡ cut g 0 54
+fields_all g = refl

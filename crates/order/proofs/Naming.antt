@@ -4,27 +4,27 @@ use mathlib.Core.Path.{◌≡◌, refl, sym, ap, ◌∙◌}
 use mathlib.Core.List.{List}
 use Prim.Native.Nat.{ℕ, zero, suc}
 use lib.ListN.{length, set, length-set}
-use Rattle.order.specs.Order.{placeOf, order_by, defaultOrder}
-use Rattle.order.specs.Carrying.{carriedPlace}
+use Rattle.order.specs.Order.{place_of, order_by, default_order}
+use Rattle.order.specs.Carrying.{carried_place}
 use Rattle.order.specs.Listing.{named}
 
 -- 54 entries
-pub named-length : (n : ℕ) → length (named n) ≡ 54
+pub named_length : (n : ℕ) → length (named n) ≡ 54
 unfolding named
-named-length zero = refl
-named-length (suc n) = length-set (named n) (carriedPlace n) n ∙ named-length n
+named_length zero = refl
+named_length (suc n) = length-set (named n) (carried_place n) n ∙ named_length n
 
 -- one bit more
-pub named_more : (n m place : ℕ) (entries : List ℕ) → m ≡ suc n → place ≡ carriedPlace n → entries ≡ named n → set entries place n ≡ named m
+pub named_more : (n m place : ℕ) (entries : List ℕ) → m ≡ suc n → place ≡ carried_place n → entries ≡ named n → set entries place n ≡ named m
 unfolding named
 named_more n m place entries e p q =
     ap (λ (l : List ℕ). set l place n) q ∙ ap (λ (t : ℕ). set (named n) t n) p ∙ ap named (sym e)
 
 -- all of them
-pub named-all : named 54 ≡ defaultOrder
-unfolding named carriedPlace placeOf order_by defaultOrder
-named-all = refl
+pub named_all : named 54 ≡ default_order
+unfolding named carried_place place_of order_by default_order
+named_all = refl
 
 -- the default order has 54 entries
-pub default-length : length defaultOrder ≡ 54
-default-length = ap (λ (l : List ℕ). length l) (sym named-all) ∙ named-length 54
+pub default_length : length default_order ≡ 54
+default_length = ap (λ (l : List ℕ). length l) (sym named_all) ∙ named_length 54

@@ -5,17 +5,17 @@ use mathlib.Core.List.{List, [], ◌∷◌}
 use Prim.Native.Nat.{ℕ}
 use lib.Dec.{T, eqb, eqb→eq, eqb_refl}
 use Rattle.bits.proofs.Tests.{and_left, and_right, and_both}
-use Rattle.order.specs.Order.{defaultOrder, is_order}
+use Rattle.order.specs.Order.{default_order, is_order}
 use Rattle.order.specs.Listing.{same_numbers}
-use Rattle.order.proofs.Orders.{default-is-order}
+use Rattle.order.proofs.Orders.{default_is_order}
 
 -- lists that are the same are equal
-pub same-equal : (xs ys : List ℕ) → T (same_numbers xs ys) → xs ≡ ys
-same-equal [] [] t = refl
-same-equal [] (y ∷ ys) t = absurd t
-same-equal (x ∷ xs) [] t = absurd t
-same-equal (x ∷ xs) (y ∷ ys) t =
-    ap₂ (λ (a : ℕ) (l : List ℕ). a ∷ l) (eqb→eq x y (and_left (eqb x y) (same_numbers xs ys) t)) (same-equal xs ys (and_right (eqb x y) (same_numbers xs ys) t))
+pub same_equal : (xs ys : List ℕ) → T (same_numbers xs ys) → xs ≡ ys
+same_equal [] [] t = refl
+same_equal [] (y ∷ ys) t = absurd t
+same_equal (x ∷ xs) [] t = absurd t
+same_equal (x ∷ xs) (y ∷ ys) t =
+    ap₂ (λ (a : ℕ) (l : List ℕ). a ∷ l) (eqb→eq x y (and_left (eqb x y) (same_numbers xs ys) t)) (same_equal xs ys (and_right (eqb x y) (same_numbers xs ys) t))
 
 -- a list is the same as itself
 pub same_self : (xs : List ℕ) → T (same_numbers xs xs)
@@ -23,5 +23,5 @@ same_self [] = tt
 same_self (x ∷ xs) = and_both (eqb x x) (same_numbers xs xs) (eqb_refl x) (same_self xs)
 
 -- so what is the same as the default order is an order
-pub same-default : (xs : List ℕ) → T (same_numbers xs defaultOrder) → T (is_order xs)
-same-default xs t = subst⁻¹ (λ (l : List ℕ). T (is_order l)) (same-equal xs defaultOrder t) default-is-order
+pub same_default : (xs : List ℕ) → T (same_numbers xs default_order) → T (is_order xs)
+same_default xs t = subst⁻¹ (λ (l : List ℕ). T (is_order l)) (same_equal xs default_order t) default_is_order

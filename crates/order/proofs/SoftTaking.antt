@@ -8,19 +8,19 @@ use native.Mathlib.Omega.{arith}
 use lib.ListN.{length, get_or, set, length-set}
 use lib.Seq.{get_or-set_same, get_or-set_other}
 use Rattle.bits.specs.Bits.{cut}
-use Rattle.bits.proofs.Cut.{cut-getD, cut-ext}
-use Rattle.order.specs.Order.{Order, placeOf, defaultOrder}
-use Rattle.order.specs.SoftTaking.{confidenceOf, KnownTo, PlaceConfidences}
-use Rattle.order.proofs.DefaultOrder.{default-place}
-use Rattle.order.proofs.Places.{entry_lt, entry-back, place-lt, place-back}
+use Rattle.bits.proofs.Cut.{cut_get_or, cut_ext}
+use Rattle.order.specs.Order.{Order, place_of, default_order}
+use Rattle.order.specs.SoftTaking.{confidence_of, KnownTo, PlaceConfidences}
+use Rattle.order.proofs.DefaultOrder.{default_place}
+use Rattle.order.proofs.Places.{entry_lt, entry_back, place_lt, place_back}
 
 -- the place that an order gives a bit is the one at which it names it
-pub place-confidences : PlaceConfidences
-place-confidences ord o confidences t h = ap (λ (p : ℕ). get_or confidences p 0) (place-back ord o t h)
+pub place_confidences : PlaceConfidences
+place_confidences ord o confidences t h = ap (λ (p : ℕ). get_or confidences p 0) (place_back ord o t h)
 
 -- in the default order a bit's confidence is found by its product
-pub default-confidence : (confidences : List ℕ) (j : ℕ) → j < 54 → get_or confidences (7 * j % 54) 0 ≡ confidenceOf defaultOrder confidences j
-default-confidence confidences j h = ap (λ (t : ℕ). get_or confidences t 0) (sym (default-place j h))
+pub default_confidence : (confidences : List ℕ) (j : ℕ) → j < 54 → get_or confidences (7 * j % 54) 0 ≡ confidence_of default_order confidences j
+default_confidence confidences j h = ap (λ (t : ℕ). get_or confidences t 0) (sym (default_place j h))
 
 module _ (q : ℕ → ℕ) (found : List ℕ) where
   -- one entry more is known
@@ -32,15 +32,15 @@ module _ (q : ℕ → ℕ) (found : List ℕ) where
       go j l (no d) = get_or-set_other found n j x 0 d ∙ k.known j (omega arith)
 
   -- all of them
-  pub known-all : KnownTo q 54 found → found ≡ cut q 0 54
-  known-all k =
-      sym (cut-getD 0 found)
+  pub known_all : KnownTo q 54 found → found ≡ cut q 0 54
+  known_all k =
+      sym (cut_get_or 0 found)
       ∙ ap (cut (λ j. get_or found j 0) 0) k.size
-      ∙ cut-ext (λ j. get_or found j 0) q 0 54 (λ j a b. k.known j (omega arith))
+      ∙ cut_ext (λ j. get_or found j 0) q 0 54 (λ j a b. k.known j (omega arith))
 
 -- a list of 54 in which the bits of the first t places have their confidences
 abbrev pub FilledTo : List ℕ → List ℕ → ℕ → List ℕ → Type 0
-FilledTo ord confidences t found = (length found ≡ 54) × ((j : ℕ) → j < 54 → placeOf ord j < t → get_or found j 0 ≡ confidenceOf ord confidences j)
+FilledTo ord confidences t found = (length found ≡ 54) × ((j : ℕ) → j < 54 → place_of ord j < t → get_or found j 0 ≡ confidence_of ord confidences j)
 
 module _ (ord : List ℕ) (o : Order ord) (confidences : List ℕ) where
   -- one place more
@@ -54,14 +54,14 @@ module _ (ord : List ℕ) (o : Order ord) (confidences : List ℕ) where
       x : ℕ
       x = get_or confidences t 0
 
-      go : (j : ℕ) → j < 54 → placeOf ord j < t + 1 → Dec (j ≡ b) → get_or (set found b x) j 0 ≡ confidenceOf ord confidences j
-      go j l p (yes s) = rw s (get_or-set_same found b x 0 (omega (arith, f.0, entry_lt ord o t h)) ∙ sym (place-confidences ord o confidences t h))
-      go j l p (no d) = get_or-set_other found b j x 0 d ∙ f.1 j l (before (ℕ_discrete (placeOf ord j) t))
+      go : (j : ℕ) → j < 54 → place_of ord j < t + 1 → Dec (j ≡ b) → get_or (set found b x) j 0 ≡ confidence_of ord confidences j
+      go j l p (yes s) = rw s (get_or-set_same found b x 0 (omega (arith, f.0, entry_lt ord o t h)) ∙ sym (place_confidences ord o confidences t h))
+      go j l p (no d) = get_or-set_other found b j x 0 d ∙ f.1 j l (before (ℕ_discrete (place_of ord j) t))
         where
-          before : Dec (placeOf ord j ≡ t) → placeOf ord j < t
-          before (yes s) = absurd (d (sym (entry-back ord o j l) ∙ ap (λ (k : ℕ). get_or ord k 0) s))
+          before : Dec (place_of ord j ≡ t) → place_of ord j < t
+          before (yes s) = absurd (d (sym (entry_back ord o j l) ∙ ap (λ (k : ℕ). get_or ord k 0) s))
           before (no q) = omega arith
 
   -- all of them
-  pub filled-all : (found : List ℕ) → FilledTo ord confidences 54 found → found ≡ cut (confidenceOf ord confidences) 0 54
-  filled-all found f = known-all (confidenceOf ord confidences) found (record { size = f.0; known = λ j l. f.1 j l (place-lt ord o j l) })
+  pub filled_all : (found : List ℕ) → FilledTo ord confidences 54 found → found ≡ cut (confidence_of ord confidences) 0 54
+  filled_all found f = known_all (confidence_of ord confidences) found (record { size = f.0; known = λ j l. f.1 j l (place_lt ord o j l) })

@@ -1,14 +1,14 @@
 -- Document 01, "Order of the bits", with document 02, T-07: orders, the default one (the house order), places, bytes and the channel.
 -- A frame's logical bits are a sequence, of which 0 to 53 count.
 use Rattle.std.specs.Prelude.{ℕ, zero, suc, ◌*◌, ◌/◌, ◌%◌, ◌<◌, ◌≡◌, Bool, false, not, cond, ◌&&◌, List, [], ◌∷◌, ◌++◌, T, eqb, ltb, length, get_or}
-use Rattle.bits.specs.Bits.{◌⊻◌, addOne, ones, value, bits, cut}
+use Rattle.bits.specs.Bits.{◌⊻◌, add_one, ones, value, bits, cut}
 use Rattle.bits.specs.Lists.{every}
-use Rattle.bits.specs.Refusals.{Table, firstRefusal}
+use Rattle.bits.specs.Refusals.{Table, first_refusal}
 
 -- how often a number stands in a list
 abbrev pub times : ℕ → List ℕ → ℕ
 times j [] = zero
-times j (x ∷ xs) = addOne (eqb x j) (times j xs)
+times j (x ∷ xs) = add_one (eqb x j) (times j xs)
 
 -- an order: 54 entries, each of the logical numbers 0 to 53 once; entry t names the bit at place t
 pub record Order (ord : List ℕ) : Type 0 where
@@ -25,17 +25,17 @@ pub record TestsOrder (ord : List ℕ) : Type 0 where
   pub only : T (is_order ord) → Order ord
 
 -- the place of logical bit j: where the order names it
-unfoldable pub placeOf : List ℕ → ℕ → ℕ
-placeOf [] j = zero
-placeOf (x ∷ xs) j = cond (eqb x j) zero (suc (placeOf xs j))
+unfoldable pub place_of : List ℕ → ℕ → ℕ
+place_of [] j = zero
+place_of (x ∷ xs) j = cond (eqb x j) zero (suc (place_of xs j))
 
 -- the order in which logical bit j goes to place f j: entry t is where t stands among the 54 places
 unfoldable pub order_by : (ℕ → ℕ) → List ℕ
-order_by f = cut (placeOf (cut f 0 54)) 0 54
+order_by f = cut (place_of (cut f 0 54)) 0 54
 
 -- the default order: logical bit j goes to place 7 × j modulo 54
-unfoldable pub defaultOrder : List ℕ
-defaultOrder = order_by (λ j. 7 * j % 54)
+unfoldable pub default_order : List ℕ
+default_order = order_by (λ j. 7 * j % 54)
 
 -- what stands at place t: the bit that the order names; the two places past the last are 0
 abbrev pub placed : List ℕ → (ℕ → Bool) → ℕ → Bool
@@ -62,24 +62,24 @@ abbrev pub NamedPlaces : Type 0
 NamedPlaces = (ord : List ℕ) (g : ℕ → Bool) (t : ℕ) → t < 54 → bit_at (frame_of ord g) t ≡ g (get_or ord t 0)
 
 -- logical bit j of a frame
-abbrev pub logicalBit : List ℕ → List ℕ → ℕ → Bool
-logicalBit ord bytes j = bit_at bytes (placeOf ord j)
+abbrev pub logical_bit : List ℕ → List ℕ → ℕ → Bool
+logical_bit ord bytes j = bit_at bytes (place_of ord j)
 
 -- the last two bits of a frame, which are 0
 abbrev pub padding : List ℕ → List Bool
 padding bytes = cut (bit_at bytes) 54 2
 
 -- what refuses a list as the order: it is none (T-07)
-abbrev pub orderTable : List ℕ → Table
-orderTable ord = (not (is_order ord), 10) ∷ []
+abbrev pub order_table : List ℕ → Table
+order_table ord = (not (is_order ord), 10) ∷ []
 
 -- what refuses a frame in an order: it is not seven bytes; what refuses the order; one of its last two bits is set
-abbrev pub frameTable : List ℕ → List ℕ → Table
-frameTable ord bytes = (not (eqb (length bytes) 7), 2) ∷ orderTable ord ++ (not (eqb (ones (padding bytes)) 0), 3) ∷ []
+abbrev pub frame_table : List ℕ → List ℕ → Table
+frame_table ord bytes = (not (eqb (length bytes) 7), 2) ∷ order_table ord ++ (not (eqb (ones (padding bytes)) 0), 3) ∷ []
 
 -- its refusal, 0 is none
-abbrev pub frameRefusal : List ℕ → List ℕ → ℕ
-frameRefusal ord bytes = firstRefusal (frameTable ord bytes)
+abbrev pub frame_refusal : List ℕ → List ℕ → ℕ
+frame_refusal ord bytes = first_refusal (frame_table ord bytes)
 
 -- the frame that a channel hands on: the places that fl names among 0 to 53 are changed, nothing else
 unfoldable pub through : (ℕ → Bool) → List ℕ → List ℕ

@@ -1,7 +1,7 @@
 // Lists of logical numbers: the default order, and the test of an order.
 ghost use Rattle.std.specs.Prelude.{◌≡◌, ◌+◌, ◌≤◌, ◌<◌, length};
-ghost use Rattle.order.specs.Order.{defaultOrder, is_order};
-ghost use Rattle.order.specs.Carrying.{nextPlace};
+ghost use Rattle.order.specs.Order.{default_order, is_order};
+ghost use Rattle.order.specs.Carrying.{next_place};
 ghost use Rattle.order.specs.Listing.{NamedTo, same_numbers};
 
 // The default order under way: the next logical bit, its place, and the entries so far.
@@ -15,7 +15,7 @@ struct Numbering {
 // The place of the next logical bit.
 fn next_place(place: usize) -> usize
     requires { place < 54 }
-    ensures { result ≡ nextPlace place }
+    ensures { result ≡ next_place place }
 {
     let next = place + 7;
     if 54 <= next { next - 54 } else { next }
@@ -42,7 +42,7 @@ fn name_nine(from: Numbering) -> Numbering
 
 // The default order, by a place that is carried along (document 02, T-04).
 pub fn default_order() -> [u8; 54]
-    ensures { result ≡ defaultOrder }
+    ensures { result ≡ default_order }
 {
     let mut numbering = Numbering {
         bit: 0,
@@ -58,7 +58,7 @@ pub fn default_order() -> [u8; 54]
 // Whether a list of 54 is the default order: all entries are compared, without an early end, so that a compiler compares many at once.
 pub(crate) fn is_default(order: &[u8]) -> bool
     requires { length order.now ≡ 54 }
-    ensures { result ≡ same_numbers order.now defaultOrder }
+    ensures { result ≡ same_numbers order.now default_order }
 {
     let list = default_order();
     let mut differ: u8 = 0;

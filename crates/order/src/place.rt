@@ -1,8 +1,8 @@
 // The seven bytes of 54 logical bits in an order.
 ghost use Rattle.std.specs.Prelude.{◌≡◌, true};
 ghost use Rattle.bits.specs.Bits.{value, cut, carried};
-ghost use Rattle.order.specs.Order.{is_order, defaultOrder, placed, byte_of};
-ghost use Rattle.order.specs.Placing.{placedBits};
+ghost use Rattle.order.specs.Order.{is_order, default_order, placed, byte_of};
+ghost use Rattle.order.specs.Placing.{placed_bits};
 
 use crate::Placed;
 use crate::list::{each_once, is_default};
@@ -10,7 +10,7 @@ use crate::list::{each_once, is_default};
 // The 56 places of 54 logical bits in the default order. Bits that stand as far from where they go move together, by a shift
 // and a mask.
 fn scatter(bits: u64) -> u64
-    ensures { result ≡ value (cut (placed defaultOrder (carried 54 bits)) 0 56) }
+    ensures { result ≡ value (cut (placed default_order (carried 54 bits)) 0 56) }
 {
     ((bits >> 40) & 0x40)
         | ((bits >> 34) & 0x2010)
@@ -60,7 +60,7 @@ fn seven_bytes(bits: u64) -> [u8; 7]
 // The frame of the logical bits in the low 54 bits of a number. Refused: 10, a list that is no order. The default order is
 // known by one comparison, so that who lends it does not pay for the others.
 pub fn place_bits(bits: u64, order: &[u8]) -> Placed
-    ensures { result ≡ placedBits order.now (carried 54 bits) }
+    ensures { result ≡ placed_bits order.now (carried 54 bits) }
 {
     if order.len() != 54 {
         return Placed {

@@ -1,8 +1,8 @@
 // The 54 logical bits of a frame in an order, each with the confidence of its place.
 ghost use Rattle.std.specs.Prelude.{◌≡◌, true, ◌+◌, ◌≤◌, length, replicate};
 ghost use Rattle.bits.specs.Bits.{cut};
-ghost use Rattle.order.specs.Order.{is_order, defaultOrder};
-ghost use Rattle.order.specs.SoftTaking.{confidenceOf, softBits, KnownTo};
+ghost use Rattle.order.specs.Order.{is_order, default_order};
+ghost use Rattle.order.specs.SoftTaking.{confidence_of, soft_bits, KnownTo};
 
 use crate::list::is_default;
 use crate::taking::logical_bits;
@@ -18,9 +18,9 @@ struct Known {
 // Nine more, each from the place of its bit in the default order.
 fn nine_more(confidences: &[u8], before: Known) -> Known
     requires confidences_len { (length confidences.now ≡ 54) × (before.count ≤ 45) }
-    requires known_to { KnownTo (confidenceOf defaultOrder confidences.now) before.count before.found }
+    requires known_to { KnownTo (confidence_of default_order confidences.now) before.count before.found }
     ensures counted { result.count ≡ before.count + 9 }
-    ensures known { KnownTo (confidenceOf defaultOrder confidences.now) result.count result.found }
+    ensures known { KnownTo (confidence_of default_order confidences.now) result.count result.found }
 {
     let mut found = before.found;
     for i in 0..9 {
@@ -35,7 +35,7 @@ fn nine_more(confidences: &[u8], before: Known) -> Known
 // The confidence of each logical bit in the default order.
 fn default_confidences(confidences: &[u8]) -> [u8; 54]
     requires { length confidences.now ≡ 54 }
-    ensures { result ≡ cut (confidenceOf defaultOrder confidences.now) 0 54 }
+    ensures { result ≡ cut (confidence_of default_order confidences.now) 0 54 }
 {
     let mut known = Known {
         count: 0,
@@ -50,7 +50,7 @@ fn default_confidences(confidences: &[u8]) -> [u8; 54]
 // In any order: place after place, the confidence there goes to the bit that the order names.
 fn each_confidence(confidences: &[u8], order: &[u8]) -> [u8; 54]
     requires { (length confidences.now ≡ 54) × (is_order order.now ≡ true) }
-    ensures { result ≡ cut (confidenceOf order.now confidences.now) 0 54 }
+    ensures { result ≡ cut (confidence_of order.now confidences.now) 0 54 }
 {
     let mut found = [0; 54];
     for t in 0..54 {
@@ -62,7 +62,7 @@ fn each_confidence(confidences: &[u8], order: &[u8]) -> [u8; 54]
 // The confidence of each logical bit. The default order is known by one comparison.
 fn by_bit(confidences: &[u8], order: &[u8]) -> [u8; 54]
     requires { (length confidences.now ≡ 54) × (is_order order.now ≡ true) }
-    ensures { result ≡ cut (confidenceOf order.now confidences.now) 0 54 }
+    ensures { result ≡ cut (confidence_of order.now confidences.now) 0 54 }
 {
     if is_default(order) {
         return default_confidences(confidences);
@@ -83,7 +83,7 @@ fn refused(n: u8) -> SoftBits
 
 // The logical bits of a frame and their confidences. Refused: 2, 10 and 3 as without confidences; 9, other than 54 of them.
 pub fn soft_bits(frame: &[u8], order: &[u8], confidences: &[u8]) -> SoftBits
-    ensures { result ≡ softBits order.now frame.now confidences.now }
+    ensures { result ≡ soft_bits order.now frame.now confidences.now }
 {
     match logical_bits(frame, order) {
         BitsAnswer::Refused(n) => refused(n),

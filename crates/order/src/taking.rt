@@ -1,8 +1,8 @@
 // The 54 logical bits of a frame in an order.
 ghost use Rattle.std.specs.Prelude.{◌≡◌, true, ◌*◌, ◌-◌, ◌^◌, ◌≤◌, ◌<◌, length};
 ghost use Rattle.bits.specs.Bits.{value, cut, carried};
-ghost use Rattle.order.specs.Order.{is_order, defaultOrder, placeOf, bit_at};
-ghost use Rattle.order.specs.Taking.{OneNamed, bitsAnswer};
+ghost use Rattle.order.specs.Order.{is_order, default_order, place_of, bit_at};
+ghost use Rattle.order.specs.Taking.{OneNamed, bits_answer};
 
 use crate::BitsAnswer;
 use crate::list::{each_once, is_default};
@@ -30,7 +30,7 @@ fn placed_bits(frame: &[u8]) -> u64
 
 // The 54 logical bits in the default order, from their places. Those that stand as far from where they go move together, by a shift and a mask.
 fn gather(placed: u64) -> u64
-    ensures { result ≡ value (cut (λ j. carried 56 placed (placeOf defaultOrder j)) 0 54) }
+    ensures { result ≡ value (cut (λ j. carried 56 placed (place_of default_order j)) 0 54) }
 {
     ((placed << 40) & 0x400000000000)
         | ((placed << 34) & 0x804000000000)
@@ -61,7 +61,7 @@ fn bit_named(places: u64, j: u8) -> u64
 // The 54 logical bits in any order: place after place, the bit there goes where the order names it.
 fn take_each(placed: u64, order: &[u8]) -> u64
     requires { is_order order.now ≡ true }
-    ensures { result ≡ value (cut (λ j. carried 56 placed (placeOf order.now j)) 0 54) }
+    ensures { result ≡ value (cut (λ j. carried 56 placed (place_of order.now j)) 0 54) }
 {
     let mut bits: u64 = 0;
     let mut left = placed;
@@ -75,7 +75,7 @@ fn take_each(placed: u64, order: &[u8]) -> u64
 // The logical bits of seven bytes in the default order. Refused: 3, one of the last two bits set.
 fn default_bits(frame: &[u8]) -> BitsAnswer
     requires { length frame.now ≡ 7 }
-    ensures { result ≡ bitsAnswer defaultOrder frame.now }
+    ensures { result ≡ bits_answer default_order frame.now }
 {
     if frame[6] % 4 != 0 {
         return BitsAnswer::Refused(3);
@@ -86,7 +86,7 @@ fn default_bits(frame: &[u8]) -> BitsAnswer
 // The same in any order.
 fn ordered_bits(frame: &[u8], order: &[u8]) -> BitsAnswer
     requires { (length frame.now ≡ 7) × (is_order order.now ≡ true) }
-    ensures { result ≡ bitsAnswer order.now frame.now }
+    ensures { result ≡ bits_answer order.now frame.now }
 {
     if frame[6] % 4 != 0 {
         return BitsAnswer::Refused(3);
@@ -97,7 +97,7 @@ fn ordered_bits(frame: &[u8], order: &[u8]) -> BitsAnswer
 // The logical bits of a frame. Refused: 2, not seven bytes; 10, a list that is no order; 3, one of the last two bits set.
 // The default order is known by one comparison, so that who lends it does not pay for the others.
 pub fn logical_bits(frame: &[u8], order: &[u8]) -> BitsAnswer
-    ensures { result ≡ bitsAnswer order.now frame.now }
+    ensures { result ≡ bits_answer order.now frame.now }
 {
     if frame.len() != 7 {
         return BitsAnswer::Refused(2);

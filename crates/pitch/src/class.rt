@@ -1,7 +1,7 @@
 // The class of a pitch code, from its count of ones.
 ghost use Rattle.std.specs.Prelude.{◌≡◌, ◌<◌};
 ghost use Rattle.bits.specs.Bits.{bits};
-ghost use Rattle.pitch.specs.Pitch.{index, classOf, classAnswer};
+ghost use Rattle.pitch.specs.Pitch.{index, class_of, class_answer};
 
 use crate::{ClassAnswer, PitchClass};
 
@@ -16,7 +16,7 @@ fn index_of(code: u8) -> u8
 // The class of a seven-bit code.
 fn class_of(code: u8) -> PitchClass
     requires { code < 128 }
-    ensures { result ≡ classOf (bits 7 code) }
+    ensures { result ≡ class_of (bits 7 code) }
 {
     let ones = u8::count_ones(code);
     if ones < 2 {
@@ -30,7 +30,7 @@ fn class_of(code: u8) -> PitchClass
 
 // The class of a code; past 127 there is none.
 pub fn classify(code: u8) -> ClassAnswer
-    ensures { result ≡ classAnswer code }
+    ensures { result ≡ class_answer code }
 {
     if code < 128 {
         ClassAnswer::Class(class_of(code))

@@ -1,12 +1,12 @@
 // The pitch code that is sent for an index.
 ghost use Rattle.std.specs.Prelude.{◌≡◌};
-ghost use Rattle.pitch.specs.Pitch.{codeAnswer};
+ghost use Rattle.pitch.specs.Pitch.{code_answer};
 
 use crate::CodeAnswer;
 
 // The code of an index; past 98 there is none.
 pub fn encode(index: u8) -> CodeAnswer
-    ensures { result ≡ codeAnswer index }
+    ensures { result ≡ code_answer index }
 {
     if 98 < index {
         return CodeAnswer::Refused(5);

@@ -11,8 +11,8 @@ use borrow.Author.Tests.{ltb-true, ltb-false, lt-ltb, le-ltb}
 use Rattle.quantiser.specs.Choice.{distance, nearest}
 
 -- a number is less than another, or it is not
-less-or-not : (a b : ℕ) → (a < b) ⊎ (b ≤ a)
-less-or-not a b = go (ltb a b) refl
+less_or_not : (a b : ℕ) → (a < b) ⊎ (b ≤ a)
+less_or_not a b = go (ltb a b) refl
   where
     go : (t : Bool) → ltb a b ≡ t → (a < b) ⊎ (b ≤ a)
     go true e = inl (ltb-true a b e)
@@ -20,48 +20,48 @@ less-or-not a b = go (ltb a b) refl
 
 module _ (lv : ℕ → ℕ) (x : ℤ) where
   -- a nearer next level is taken
-  pub nearest-up : (n : ℕ) → distance x (lv (suc n)) < distance x (lv (nearest lv x n)) → nearest lv x (suc n) ≡ suc n
+  pub nearest_up : (n : ℕ) → distance x (lv (suc n)) < distance x (lv (nearest lv x n)) → nearest lv x (suc n) ≡ suc n
   unfolding nearest
-  nearest-up n h = rw (lt-ltb _ _ h)
+  nearest_up n h = rw (lt-ltb _ _ h)
 
   -- a next level that is not nearer is not
-  pub nearest-stays : (n : ℕ) → distance x (lv (nearest lv x n)) ≤ distance x (lv (suc n)) → nearest lv x (suc n) ≡ nearest lv x n
+  pub nearest_stays : (n : ℕ) → distance x (lv (nearest lv x n)) ≤ distance x (lv (suc n)) → nearest lv x (suc n) ≡ nearest lv x n
   unfolding nearest
-  nearest-stays n h = rw (le-ltb _ _ h)
+  nearest_stays n h = rw (le-ltb _ _ h)
 
   -- the next level is nearer, or it is not
-  nearest-next : (n : ℕ) →
+  nearest_next : (n : ℕ) →
       (distance x (lv (suc n)) < distance x (lv (nearest lv x n))) ⊎ (distance x (lv (nearest lv x n)) ≤ distance x (lv (suc n)))
-  nearest-next n = less-or-not (distance x (lv (suc n))) (distance x (lv (nearest lv x n)))
+  nearest_next n = less_or_not (distance x (lv (suc n))) (distance x (lv (nearest lv x n)))
 
   -- the index is at most n
-  pub nearest-le : (n : ℕ) → nearest lv x n ≤ n
+  pub nearest_le : (n : ℕ) → nearest lv x n ≤ n
   unfolding nearest
-  nearest-le zero = omega arith
-  nearest-le (suc n) =
-      let ih = nearest-le n in
-      ⊎_elim (λ h. omega (arith, nearest-up n h)) (λ h. omega (arith, nearest-stays n h)) (nearest-next n)
+  nearest_le zero = omega arith
+  nearest_le (suc n) =
+      let ih = nearest_le n in
+      ⊎_elim (λ h. omega (arith, nearest_up n h)) (λ h. omega (arith, nearest_stays n h)) (nearest_next n)
 
   -- no level of 0 to n is nearer
-  pub nearest-least : (n i : ℕ) → i ≤ n → distance x (lv (nearest lv x n)) ≤ distance x (lv i)
+  pub nearest_least : (n i : ℕ) → i ≤ n → distance x (lv (nearest lv x n)) ≤ distance x (lv i)
   unfolding nearest
-  nearest-least zero i h =
+  nearest_least zero i h =
       let e : i ≡ 0 = omega arith in
       rw e (le_refl _)
-  nearest-least (suc n) i h =
-      let below = nearest-least n in
+  nearest_least (suc n) i h =
+      let below = nearest_least n in
       ⊎_elim
-      (λ u. rw (nearest-up n u) (⊎_elim (λ e. rw e (le_refl _)) (λ l. omega (arith, below i (omega arith))) (eq-or-lt_of_le h)))
-      (λ s. rw (nearest-stays n s) (⊎_elim (λ e. rw e s) (λ l. below i (omega arith)) (eq-or-lt_of_le h)))
-      (nearest-next n)
+      (λ u. rw (nearest_up n u) (⊎_elim (λ e. rw e (le_refl _)) (λ l. omega (arith, below i (omega arith))) (eq-or-lt_of_le h)))
+      (λ s. rw (nearest_stays n s) (⊎_elim (λ e. rw e s) (λ l. below i (omega arith)) (eq-or-lt_of_le h)))
+      (nearest_next n)
 
   -- every level below the nearest is farther
-  pub nearest-lower : (n i : ℕ) → i < nearest lv x n → distance x (lv (nearest lv x n)) < distance x (lv i)
+  pub nearest_lower : (n i : ℕ) → i < nearest lv x n → distance x (lv (nearest lv x n)) < distance x (lv i)
   unfolding nearest
-  nearest-lower zero i h = absurd (omega arith)
-  nearest-lower (suc n) i h =
-      let below = nearest-lower n i in
+  nearest_lower zero i h = absurd (omega arith)
+  nearest_lower (suc n) i h =
+      let below = nearest_lower n i in
       ⊎_elim
-      (λ u. rw (nearest-up n u) (lt_of_lt_of_le u (nearest-least n i (omega (arith, nearest-up n u)))))
-      (λ s. rw (nearest-stays n s) (below (omega (arith, nearest-stays n s))))
-      (nearest-next n)
+      (λ u. rw (nearest_up n u) (lt_of_lt_of_le u (nearest_least n i (omega (arith, nearest_up n u)))))
+      (λ s. rw (nearest_stays n s) (below (omega (arith, nearest_stays n s))))
+      (nearest_next n)

@@ -7,19 +7,19 @@ use native.Mathlib.Omega.{arith}
 use lib.IntN.{ℤ, pos, negsuc, neg_ℤ, nat_abs, ◌+ℤ◌, ◌-ℤ◌, +ℤ_assoc, +ℤ-neg_ℤ_cancel, neg_ℤ-+ℤ}
 use borrow.Author.Tests.{leb-true, le-ltb}
 use Rattle.gain.specs.Levels.{apart}
-use Rattle.quantiser.specs.Choice.{distance, nearest, levelInRange}
+use Rattle.quantiser.specs.Choice.{distance, nearest, level_in_range}
 use Rattle.quantiser.proofs.Thresholds.{uniform, index, distance_is}
 
 -- what is at the same distances has the same nearest index
-nearest-ext : (lv mv : ℕ → ℕ) (x y : ℤ) → ((i : ℕ) → distance x (lv i) ≡ distance y (mv i)) →
+nearest_ext : (lv mv : ℕ → ℕ) (x y : ℤ) → ((i : ℕ) → distance x (lv i) ≡ distance y (mv i)) →
     (n : ℕ) → nearest lv x n ≡ nearest mv y n
 unfolding nearest
-nearest-ext lv mv x y h zero = refl
-nearest-ext lv mv x y h (suc n) = simp (nearest-ext lv mv x y h n, h)
+nearest_ext lv mv x y h zero = refl
+nearest_ext lv mv x y h (suc n) = simp (nearest_ext lv mv x y h n, h)
 
 -- both raised by s: the same difference
-difference-raised : (x : ℤ) (s l : ℕ) → (x +ℤ pos s) -ℤ pos (s + l) ≡ x -ℤ pos l
-difference-raised x s l =
+difference_raised : (x : ℤ) (s l : ℕ) → (x +ℤ pos s) -ℤ pos (s + l) ≡ x -ℤ pos l
+difference_raised x s l =
     let m = neg_ℤ (pos l) in
     ap (λ (z : ℤ). (x +ℤ pos s) +ℤ z) (neg_ℤ-+ℤ (pos s) (pos l))
     ∙ sym (+ℤ_assoc (x +ℤ pos s) (neg_ℤ (pos s)) m)
@@ -27,22 +27,22 @@ difference-raised x s l =
 
 module _ (x : ℤ) (s v : ℕ) (e : pos v ≡ x +ℤ pos s) where
   -- a raised level is as far from a raised level
-  pub distance-raised : (l : ℕ) → distance (pos v) (s + l) ≡ distance x l
-  distance-raised l = rw e (ap nat_abs (difference-raised x s l))
+  pub distance_raised : (l : ℕ) → distance (pos v) (s + l) ≡ distance x l
+  distance_raised l = rw e (ap nat_abs (difference_raised x s l))
 
   -- the same as the difference of two unsigned numbers
-  pub apart-raised : (l : ℕ) → apart v (s + l) ≡ distance x l
-  apart-raised l = sym (distance_is v (s + l)) ∙ distance-raised l
+  pub apart_raised : (l : ℕ) → apart v (s + l) ≡ distance x l
+  apart_raised l = sym (distance_is v (s + l)) ∙ distance_raised l
 
   -- levels that rise by a step, raised: the same nearest index
-  pub nearest-raised : (lv : ℕ → ℕ) (base step : ℕ) → ((i : ℕ) → base + i * step ≡ s + lv i) →
+  pub nearest_raised : (lv : ℕ → ℕ) (base step : ℕ) → ((i : ℕ) → base + i * step ≡ s + lv i) →
       (n : ℕ) → index base step v n ≡ nearest lv x n
-  nearest-raised lv base step h n =
-      nearest-ext (uniform base step) lv (pos v) x (λ i. ap (λ (l : ℕ). distance (pos v) l) (h i) ∙ distance-raised (lv i)) n
+  nearest_raised lv base step h n =
+      nearest_ext (uniform base step) lv (pos v) x (λ i. ap (λ (l : ℕ). distance (pos v) l) (h i) ∙ distance_raised (lv i)) n
 
 -- a level in range, raised by 18600, is at least 0 and at most 55800
-pub raised-in-range : (x : ℤ) → levelInRange x ≡ true → (v : ℕ) × (x +ℤ pos 18600 ≡ pos v) × (v ≤ 55800)
-raised-in-range (pos n) h = (n + 18600, refl, omega (arith, leb-true n 37200 h))
-raised-in-range (negsuc n) h =
+pub raised_in_range : (x : ℤ) → level_in_range x ≡ true → (v : ℕ) × (x +ℤ pos 18600 ≡ pos v) × (v ≤ 55800)
+raised_in_range (pos n) h = (n + 18600, refl, omega (arith, leb-true n 37200 h))
+raised_in_range (negsuc n) h =
     let l : n ≤ 18599 = leb-true n 18599 ((and-eq-true_iff _ true).0 h).0 in
     (18600 - suc n, rw (le-ltb 18600 (suc n) (omega arith)), omega arith)

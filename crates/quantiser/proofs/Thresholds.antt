@@ -10,7 +10,7 @@ use lib.IntN.{pos, negsuc, nat_abs}
 use borrow.Author.Tests.{ltb-true, ltb-false}
 use Rattle.gain.specs.Levels.{apart}
 use Rattle.quantiser.specs.Choice.{distance, nearest}
-use Rattle.quantiser.proofs.NearestLevel.{nearest-up, nearest-stays}
+use Rattle.quantiser.proofs.NearestLevel.{nearest_up, nearest_stays}
 
 -- the distance of two unsigned numbers
 pub distance_is : (v l : ℕ) → distance (pos v) l ≡ apart v l
@@ -35,38 +35,38 @@ index base step v n = nearest (uniform base step) (pos v) n
 
 module _ (base step v : ℕ) (rises : 1 ≤ step) where
   -- above the threshold the next level is nearer
-  next-nearer : (i : ℕ) → threshold base step i < 2 * v → apart v (base + suc i * step) < apart v (base + i * step)
-  next-nearer i h = omega (arith, suc-mul i step)
+  next_nearer : (i : ℕ) → threshold base step i < 2 * v → apart v (base + suc i * step) < apart v (base + i * step)
+  next_nearer i h = omega (arith, suc-mul i step)
 
   -- at or below the threshold no higher level is nearer
-  none-nearer : (i j : ℕ) → 2 * v ≤ threshold base step i → i < j → apart v (base + i * step) ≤ apart v (base + j * step)
-  none-nearer i j h l =
+  none_nearer : (i j : ℕ) → 2 * v ≤ threshold base step i → i < j → apart v (base + i * step) ≤ apart v (base + j * step)
+  none_nearer i j h l =
       let m : suc i * step ≤ j * step = mul-le-mul_right step l in
       omega (arith, suc-mul i step)
 
   -- a value above the threshold goes up one index
-  pub index-up : (i : ℕ) → index base step v i ≡ i → threshold base step i < 2 * v → index base step v (suc i) ≡ suc i
-  index-up i e h = nearest-up (uniform base step) (pos v) i (simp (e, distance_is) (next-nearer i h))
+  pub index_up : (i : ℕ) → index base step v i ≡ i → threshold base step i < 2 * v → index base step v (suc i) ≡ suc i
+  index_up i e h = nearest_up (uniform base step) (pos v) i (simp (e, distance_is) (next_nearer i h))
 
   -- a value at or below the threshold goes no higher
   pub index_stays : (i k : ℕ) → index base step v i ≡ i → 2 * v ≤ threshold base step i → index base step v (k + i) ≡ i
   index_stays i zero e h = rw zero-add e
   index_stays i (suc k) e h =
       let t = index_stays i k e h in
-      rw suc-add (nearest-stays (uniform base step) (pos v) (k + i) (simp (t, distance_is) (none-nearer i (suc (k + i)) h (omega arith))) ∙ t)
+      rw suc-add (nearest_stays (uniform base step) (pos v) (k + i) (simp (t, distance_is) (none_nearer i (suc (k + i)) h (omega arith))) ∙ t)
 
   -- index 0 is that of the values up to the lowest threshold
-  pub index-first : (n : ℕ) → 2 * v ≤ threshold base step 0 → index base step v n ≡ 0
+  pub index_first : (n : ℕ) → 2 * v ≤ threshold base step 0 → index base step v n ≡ 0
   unfolding nearest
-  index-first n h = rw add-zero at (index_stays 0 n refl h)
+  index_first n h = rw add-zero at (index_stays 0 n refl h)
 
   -- the last index is that of the values above the highest threshold
-  pub index-last : (n : ℕ) → threshold base step n < 2 * v → index base step v (suc n) ≡ suc n
+  pub index_last : (n : ℕ) → threshold base step n < 2 * v → index base step v (suc n) ≡ suc n
   unfolding nearest
-  index-last zero h = index-up 0 refl h
-  index-last (suc n) h = index-up (suc n) (index-last n (omega (arith, suc-mul n step))) h
+  index_last zero h = index_up 0 refl h
+  index_last (suc n) h = index_up (suc n) (index_last n (omega (arith, suc-mul n step))) h
 
   -- any other is that of the values above one threshold and up to the next
-  pub index-between : (i k : ℕ) → threshold base step i < 2 * v → 2 * v ≤ threshold base step (suc i) →
+  pub index_between : (i k : ℕ) → threshold base step i < 2 * v → 2 * v ≤ threshold base step (suc i) →
       index base step v (k + suc i) ≡ suc i
-  index-between i k l h = index_stays (suc i) k (index-last i l) h
+  index_between i k l h = index_stays (suc i) k (index_last i l) h

@@ -1,8 +1,8 @@
 -- Document 01, "Gain levels" (5.3.3, 5.3.7): choosing codes from a first and a second level, and q, the second code before.
 use Rattle.std.specs.Prelude.{ℕ, zero, suc, ◌+◌, Bool, not, ◌&&◌, cond, [], ◌∷◌, leb, ltb, ℤ, pos, neg_ℤ, nat_abs, ◌-ℤ◌}
 use Rattle.std.specs.Int.Signed.{le_z}
-use Rattle.bits.specs.Refusals.{firstRefusal}
-use Rattle.gain.specs.Levels.{level, apart, mean, firstLevel}
+use Rattle.bits.specs.Refusals.{first_refusal}
+use Rattle.gain.specs.Levels.{level, apart, mean, first_level}
 use Rattle.quantiser.specs.declared.CodesAnswer.{CodesAnswer}
 use Rattle.quantiser.specs.declared.CodesAnswer.TheVariants.{Codes, Refused}
 
@@ -20,35 +20,35 @@ nearest lv x zero = 0
 nearest lv x (suc n) = nearer lv x (nearest lv x n) (suc n)
 
 -- the second code: the index of the nearest of the 32 levels
-abbrev pub chosenG2 : ℤ → ℕ
-chosenG2 second = nearest level second 31
+abbrev pub chosen_g2 : ℤ → ℕ
+chosen_g2 second = nearest level second 31
 
 -- a steady frame: second codes at most 2 apart, and the first level within 3 dB of their levels' mean
 abbrev pub steady : ℤ → ℕ → ℕ → Bool
 steady first g2 q = leb (apart g2 q) 2 && leb (distance first (mean g2 q)) 558
 
 -- the seven levels, of codes 1 to 7
-abbrev pub sevenLevels : ℕ → ℕ → ℕ → ℕ
-sevenLevels g2 q i = firstLevel g2 (suc i) q
+abbrev pub seven_levels : ℕ → ℕ → ℕ → ℕ
+seven_levels g2 q i = first_level g2 (suc i) q
 
 -- the first code: 0 for a steady frame and for no other, else one more than the index of the nearest of the seven
-unfoldable pub chosenG1 : ℤ → ℕ → ℕ → ℕ
-chosenG1 first g2 q = cond (steady first g2 q) 0 (1 + nearest (sevenLevels g2 q) first 6)
+unfoldable pub chosen_g1 : ℤ → ℕ → ℕ → ℕ
+chosen_g1 first g2 q = cond (steady first g2 q) 0 (1 + nearest (seven_levels g2 q) first 6)
 
 -- the levels that codes are chosen for, −18600 to 37200
-abbrev pub levelInRange : ℤ → Bool
-levelInRange x = le_z (neg_ℤ (pos 18600)) x && le_z x (pos 37200)
+abbrev pub level_in_range : ℤ → Bool
+level_in_range x = le_z (neg_ℤ (pos 18600)) x && le_z x (pos 37200)
 
 -- the refusal of a choice: 5 where a level or q is out of range, 0 for none
-abbrev pub chooseRefusal : ℤ → ℤ → ℕ → ℕ
-chooseRefusal first second q = firstRefusal ((not (levelInRange first && levelInRange second && leb q 31), 5) ∷ [])
+abbrev pub choose_refusal : ℤ → ℤ → ℕ → ℕ
+choose_refusal first second q = first_refusal ((not (level_in_range first && level_in_range second && leb q 31), 5) ∷ [])
 
 -- the codes where the refusal is 0, otherwise the refusal
-abbrev pub codesUnless : ℕ → ℕ → ℕ → CodesAnswer
-codesUnless zero g2 g1 = Codes g2 g1
-codesUnless (suc n) g2 g1 = Refused (suc n)
+abbrev pub codes_unless : ℕ → ℕ → ℕ → CodesAnswer
+codes_unless zero g2 g1 = Codes g2 g1
+codes_unless (suc n) g2 g1 = Refused (suc n)
 
 -- the answer to a call for both codes
-unfoldable pub chooseAnswer : ℤ → ℤ → ℕ → CodesAnswer
-chooseAnswer first second q =
-    codesUnless (chooseRefusal first second q) (chosenG2 second) (chosenG1 first (chosenG2 second) q)
+unfoldable pub choose_answer : ℤ → ℤ → ℕ → CodesAnswer
+choose_answer first second q =
+    codes_unless (choose_refusal first second q) (chosen_g2 second) (chosen_g1 first (chosen_g2 second) q)

@@ -1,7 +1,7 @@
 // From two levels to their gain codes (5.3.3).
 ghost use Rattle.std.specs.Prelude.{◌≡◌, true, ◌≤◌, leb, pos, ◌+ℤ◌};
 ghost use Rattle.gain.specs.Levels.{apart};
-ghost use Rattle.quantiser.specs.Choice.{levelInRange, chosenG2, steady, chosenG1, chooseAnswer};
+ghost use Rattle.quantiser.specs.Choice.{level_in_range, chosen_g2, steady, chosen_g1, choose_answer};
 
 use crate::CodesAnswer;
 use crate::levels::first_level_of;
@@ -12,7 +12,7 @@ const RAISE: u32 = 18600;
 
 // The codes of a frame's first and second level, after the second code `q`.
 pub fn choose(first: i32, second: i32, q: u8) -> CodesAnswer
-    ensures { result ≡ chooseAnswer first second q }
+    ensures { result ≡ choose_answer first second q }
 {
     if level_in_range(first) & level_in_range(second) & (q <= 31) {
         let g2 = second_code(second);
@@ -27,14 +27,14 @@ pub fn choose(first: i32, second: i32, q: u8) -> CodesAnswer
 
 // Whether a level is one that codes are chosen for.
 fn level_in_range(x: i32) -> bool
-    ensures { result ≡ levelInRange x }
+    ensures { result ≡ level_in_range x }
 {
     (-18600 <= x) & (x <= 37200)
 }
 
 // A level in range as an unsigned number, raised by `RAISE`.
 fn raised(x: i32) -> u32
-    requires { levelInRange x ≡ true }
+    requires { level_in_range x ≡ true }
     ensures equal { pos result ≡ x +ℤ pos 18600 }
     ensures bound { result ≤ 55800 }
 {
@@ -43,8 +43,8 @@ fn raised(x: i32) -> u32
 
 // The index of the nearest of the 32 levels.
 fn second_code(second: i32) -> u8
-    requires { levelInRange second ≡ true }
-    ensures equal { result ≡ chosenG2 second }
+    requires { level_in_range second ≡ true }
+    ensures equal { result ≡ chosen_g2 second }
     ensures bound { result ≤ 31 }
 {
     quantise(RAISE + 1860, 402, 31, raised(second))
@@ -52,8 +52,8 @@ fn second_code(second: i32) -> u8
 
 // 0 for a steady frame, otherwise 1 plus the index of the nearest of the seven levels.
 fn first_code(first: i32, g2: u8, q: u8) -> u8
-    requires { (levelInRange first ≡ true) × (g2 ≤ 31) × (q ≤ 31) }
-    ensures { result ≡ chosenG1 first g2 q }
+    requires { (level_in_range first ≡ true) × (g2 ≤ 31) × (q ≤ 31) }
+    ensures { result ≡ chosen_g1 first g2 q }
 {
     if is_steady(first, g2, q) {
         return 0;
@@ -65,7 +65,7 @@ fn first_code(first: i32, g2: u8, q: u8) -> u8
 
 // Whether the second levels are close, and the first level is close to their mean.
 fn is_steady(first: i32, g2: u8, q: u8) -> bool
-    requires { (levelInRange first ≡ true) × (g2 ≤ 31) × (q ≤ 31) }
+    requires { (level_in_range first ≡ true) × (g2 ≤ 31) × (q ≤ 31) }
     ensures { result ≡ steady first g2 q }
 {
     let mean = first_level_of(g2, 0, q);

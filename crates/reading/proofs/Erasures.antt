@@ -5,65 +5,65 @@ use mathlib.Core.Path.{◌≡◌, refl, ap, ap₂, ◌∙◌}
 use mathlib.Core.Bool.{Bool, true, false, true≢false, false≢true, ◌||◌, or-true}
 use mathlib.Core.List.{List}
 use Prim.Native.Nat.{ℕ}
-use Rattle.pitch.specs.Pitch.{classOf}
+use Rattle.pitch.specs.Pitch.{class_of}
 use Rattle.pitch.specs.declared.PitchClass.{PitchClass}
 use Rattle.pitch.specs.declared.PitchClass.TheVariants as class
-use Rattle.hamming.specs.Word.{syndrome, spareColumn, erases, decode}
+use Rattle.hamming.specs.Word.{syndrome, spare_column, erases, decode}
 use Rattle.hamming.specs.declared.Decoded.{Decoded}
 use Rattle.hamming.specs.declared.Decoded.TheVariants as word
-use Rattle.hamming.proofs.Erasures.{isErased, erased-eq, decode-erased}
-use Rattle.order.specs.Fields.{wordA, wordB, wordC, wordD, pitchBits}
-use Rattle.reading.specs.Reading.{fromWords, byClass, read}
+use Rattle.hamming.proofs.Erasures.{is_erased, erased_eq, decode_erased}
+use Rattle.order.specs.Fields.{word_a, word_b, word_c, word_d, pitch_bits}
+use Rattle.reading.specs.Reading.{from_words, by_class, read}
 use Rattle.reading.specs.declared.Reading.{Reading}
 use Rattle.reading.specs.declared.Reading.TheVariants.{Accepted, Erased}
 
 -- whether a frame is read as erased
-abbrev pub frameErased : Reading → Bool
-frameErased (Accepted set k) = false
-frameErased Erased = true
+abbrev pub frame_erased : Reading → Bool
+frame_erased (Accepted set k) = false
+frame_erased Erased = true
 
-frameErased-eq : (r : Reading) → frameErased r ≡ true → r ≡ Erased
-frameErased-eq (Accepted set k) e = absurd (false≢true e)
-frameErased-eq Erased e = refl
+frame_erased_eq : (r : Reading) → frame_erased r ≡ true → r ≡ Erased
+frame_erased_eq (Accepted set k) e = absurd (false≢true e)
+frame_erased_eq Erased e = refl
 
 module _ (g : ℕ → Bool) where
   -- whether its words erase an unvoiced frame: A, then B; none of seven bits does
-  abbrev pub wordsErase : Bool
-  wordsErase = erases 8 (syndrome 8 (wordA g)) || erases 6 (syndrome 6 (wordB g))
+  abbrev pub words_erase : Bool
+  words_erase = erases 8 (syndrome 8 (word_a g)) || erases 6 (syndrome 6 (word_b g))
 
   -- whether a frame whose pitch code has this class is erased
-  abbrev pub erasedIn : PitchClass → Bool
-  erasedIn class.Unvoiced = wordsErase
-  erasedIn class.Erased = true
-  erasedIn (class.Voiced i) = false
+  abbrev pub erased_in : PitchClass → Bool
+  erased_in class.Unvoiced = words_erase
+  erased_in class.Erased = true
+  erased_in (class.Voiced i) = false
 
   -- an unvoiced frame whose words C and D do not erase it
-  words-erase : (a b c d : Decoded) → isErased c ≡ false → isErased d ≡ false → frameErased (fromWords g a b c d) ≡ (isErased a || isErased b)
-  words-erase word.Erased b c d hc hd = refl
-  words-erase (word.Read a i) word.Erased c d hc hd = refl
-  words-erase (word.Read a i) (word.Read b j) word.Erased d hc hd = absurd (true≢false hc)
-  words-erase (word.Read a i) (word.Read b j) (word.Read c k) word.Erased hc hd = absurd (true≢false hd)
-  words-erase (word.Read a i) (word.Read b j) (word.Read c k) (word.Read d l) hc hd = refl
+  words_erase_lem : (a b c d : Decoded) → is_erased c ≡ false → is_erased d ≡ false → frame_erased (from_words g a b c d) ≡ (is_erased a || is_erased b)
+  words_erase_lem word.Erased b c d hc hd = refl
+  words_erase_lem (word.Read a i) word.Erased c d hc hd = refl
+  words_erase_lem (word.Read a i) (word.Read b j) word.Erased d hc hd = absurd (true≢false hc)
+  words_erase_lem (word.Read a i) (word.Read b j) (word.Read c k) word.Erased hc hd = absurd (true≢false hd)
+  words_erase_lem (word.Read a i) (word.Read b j) (word.Read c k) (word.Read d l) hc hd = refl
 
   -- a frame of each class
-  class-erases : (c : PitchClass) → frameErased (byClass g c) ≡ erasedIn c
-  class-erases class.Unvoiced =
-      words-erase (decode 8 (wordA g)) (decode 6 (wordB g)) (decode 7 (wordC g)) (decode 7 (wordD g))
-      (decode-erased 7 (wordC g)) (decode-erased 7 (wordD g))
-      ∙ ap₂ ◌||◌ (decode-erased 8 (wordA g)) (decode-erased 6 (wordB g))
-  class-erases class.Erased = refl
-  class-erases (class.Voiced i) = refl
+  class_erases : (c : PitchClass) → frame_erased (by_class g c) ≡ erased_in c
+  class_erases class.Unvoiced =
+      words_erase_lem (decode 8 (word_a g)) (decode 6 (word_b g)) (decode 7 (word_c g)) (decode 7 (word_d g))
+      (decode_erased 7 (word_c g)) (decode_erased 7 (word_d g))
+      ∙ ap₂ ◌||◌ (decode_erased 8 (word_a g)) (decode_erased 6 (word_b g))
+  class_erases class.Erased = refl
+  class_erases (class.Voiced i) = refl
 
   -- a frame is erased exactly where its pitch code or its words say so
-  pub read-erased : frameErased (read g) ≡ erasedIn (classOf (pitchBits g))
+  pub read_erased : frame_erased (read g) ≡ erased_in (class_of (pitch_bits g))
   unfolding read
-  read-erased = class-erases (classOf (pitchBits g))
+  read_erased = class_erases (class_of (pitch_bits g))
 
   -- the spare's syndrome in word B erases an unvoiced frame
-  pub spare-read : classOf (pitchBits g) ≡ class.Unvoiced → syndrome 6 (wordB g) ≡ spareColumn → read g ≡ Erased
-  spare-read u e =
-      frameErased-eq (read g) (read-erased ∙ ap erasedIn u ∙ ap (λ (z : List Bool). erases 8 (syndrome 8 (wordA g)) || erases 6 z) e ∙ or-true (erases 8 (syndrome 8 (wordA g))))
+  pub spare_read : class_of (pitch_bits g) ≡ class.Unvoiced → syndrome 6 (word_b g) ≡ spare_column → read g ≡ Erased
+  spare_read u e =
+      frame_erased_eq (read g) (read_erased ∙ ap erased_in u ∙ ap (λ (z : List Bool). erases 8 (syndrome 8 (word_a g)) || erases 6 z) e ∙ or-true (erases 8 (syndrome 8 (word_a g))))
 
   -- word A is checked first: where its syndrome erases, the other three play no part
-  pub a_first : erases 8 (syndrome 8 (wordA g)) ≡ true → (b c d : Decoded) → fromWords g (decode 8 (wordA g)) b c d ≡ Erased
-  a_first e b c d = ap (λ (a : Decoded). fromWords g a b c d) (erased-eq (decode 8 (wordA g)) (decode-erased 8 (wordA g) ∙ e))
+  pub a_first : erases 8 (syndrome 8 (word_a g)) ≡ true → (b c d : Decoded) → from_words g (decode 8 (word_a g)) b c d ≡ Erased
+  a_first e b c d = ap (λ (a : Decoded). from_words g a b c d) (erased_eq (decode 8 (word_a g)) (decode_erased 8 (word_a g) ∙ e))

@@ -7,25 +7,25 @@ use Prim.Native.Nat.{ℕ, ◌+◌, ◌*◌, ◌/◌, ◌%◌, ◌≤◌, ◌<◌
 use native.Mathlib.Omega.{arith}
 use lib.Dec.{lit≤}
 use Rattle.bits.specs.Bits.{value, cut}
-use Rattle.bits.proofs.Cut.{cut-ext}
-use Rattle.pitch.specs.Pitch.{classOf}
+use Rattle.bits.proofs.Cut.{cut_ext}
+use Rattle.pitch.specs.Pitch.{class_of}
 use Rattle.pitch.specs.declared.PitchClass.{PitchClass}
 use Rattle.pitch.specs.declared.PitchClass.TheVariants as class
 use Rattle.hamming.specs.Word.{decode}
 use Rattle.hamming.specs.declared.Decoded.{Decoded}
 use Rattle.hamming.specs.declared.Decoded.TheVariants as word
-use Rattle.order.specs.Fields.{pitchBits}
-use Rattle.reading.specs.Reading.{indicesOf, voicingOf, pitchRepaired, fromWords, byClass, read}
+use Rattle.order.specs.Fields.{pitch_bits}
+use Rattle.reading.specs.Reading.{indices_of, voicing_of, pitch_repaired, from_words, by_class, read}
 use Rattle.sets.specs.declared.ParameterSet.TheVariants.{Unvoiced, Voiced}
 use Rattle.reading.specs.declared.Reading.TheVariants.{Accepted}
 
 module _ (g h : ℕ → Bool) (e : (j : ℕ) → j < 53 → g j ≡ h j) where
   -- a part of them
   pub cuts : (i n : ℕ) → i + n ≤ 53 → cut g i n ≡ cut h i n
-  cuts i n l = cut-ext g h i n (λ j a b. e j (omega arith))
+  cuts i n l = cut_ext g h i n (λ j a b. e j (omega arith))
 
-  indices-ext : (a b c d : ℕ) → indicesOf g a b c d ≡ indicesOf h a b c d
-  indices-ext a b c d i = record {
+  indices_ext : (a b c d : ℕ) → indices_of g a b c d ≡ indices_of h a b c d
+  indices_ext a b c d i = record {
     l1 = a * 8 + b;
     l2 = value (cuts 35 6 (lit≤ tt) i);
     l3 = value (cuts 41 6 (lit≤ tt) i);
@@ -34,38 +34,38 @@ module _ (g h : ℕ → Bool) (e : (j : ℕ) → j < 53 → g j ≡ h j) where
     g1 = d % 8;
   }
 
-  voicing-ext : (p : ℕ) → voicingOf g p ≡ voicingOf h p
-  voicing-ext p i = record {
+  voicing_ext : (p : ℕ) → voicing_of g p ≡ voicing_of h p
+  voicing_ext p i = record {
     pitch = p;
     bandpass = value (cuts 4 4 (lit≤ tt) i);
     fourier = value (cuts 11 3 (lit≤ tt) i ++ (cuts 18 3 (lit≤ tt) i ++ cuts 25 2 (lit≤ tt) i));
     aperiodic = value (cuts 27 1 (lit≤ tt) i);
   }
 
-  repaired-ext : pitchRepaired (pitchBits g) ≡ pitchRepaired (pitchBits h)
-  repaired-ext = ap pitchRepaired (cuts 28 7 (lit≤ tt))
+  repaired_ext : pitch_repaired (pitch_bits g) ≡ pitch_repaired (pitch_bits h)
+  repaired_ext = ap pitch_repaired (cuts 28 7 (lit≤ tt))
 
   -- from the outcomes of the words
-  pub words-ext : (a b c d : Decoded) → fromWords g a b c d ≡ fromWords h a b c d
-  words-ext word.Erased b c d = refl
-  words-ext (word.Read a i) word.Erased c d = refl
-  words-ext (word.Read a i) (word.Read b j) word.Erased d = refl
-  words-ext (word.Read a i) (word.Read b j) (word.Read c k) word.Erased = refl
-  words-ext (word.Read a i) (word.Read b j) (word.Read c k) (word.Read d l) = λ t. Accepted (Unvoiced (indices-ext a b c d t)) (repaired-ext t + i + j + k + l)
+  pub words_ext : (a b c d : Decoded) → from_words g a b c d ≡ from_words h a b c d
+  words_ext word.Erased b c d = refl
+  words_ext (word.Read a i) word.Erased c d = refl
+  words_ext (word.Read a i) (word.Read b j) word.Erased d = refl
+  words_ext (word.Read a i) (word.Read b j) (word.Read c k) word.Erased = refl
+  words_ext (word.Read a i) (word.Read b j) (word.Read c k) (word.Read d l) = λ t. Accepted (Unvoiced (indices_ext a b c d t)) (repaired_ext t + i + j + k + l)
 
   -- by the class of the pitch code
-  pub class-ext : (c : PitchClass) → byClass g c ≡ byClass h c
-  class-ext class.Unvoiced =
-      words-ext (decode 8 (cut g 0 8)) (decode 6 (cut g 8 6)) (decode 7 (cut g 14 7)) (decode 7 (cut g 21 7))
-      ∙ (λ t. fromWords h (decode 8 (cuts 0 8 (lit≤ tt) t)) (decode 6 (cuts 8 6 (lit≤ tt) t)) (decode 7 (cuts 14 7 (lit≤ tt) t))
+  pub class_ext : (c : PitchClass) → by_class g c ≡ by_class h c
+  class_ext class.Unvoiced =
+      words_ext (decode 8 (cut g 0 8)) (decode 6 (cut g 8 6)) (decode 7 (cut g 14 7)) (decode 7 (cut g 21 7))
+      ∙ (λ t. from_words h (decode 8 (cuts 0 8 (lit≤ tt) t)) (decode 6 (cuts 8 6 (lit≤ tt) t)) (decode 7 (cuts 14 7 (lit≤ tt) t))
       (decode 7 (cuts 21 7 (lit≤ tt) t)))
-  class-ext class.Erased = refl
-  class-ext (class.Voiced p) =
-      (λ t. Accepted (Voiced (indices-ext (value (cut g 0 4)) (value (cut g 8 3)) (value (cut g 14 4)) (value (cut g 21 4)) t) (voicing-ext p t)) 0)
-      ∙ (λ t. Accepted (Voiced (indicesOf h (value (cuts 0 4 (lit≤ tt) t)) (value (cuts 8 3 (lit≤ tt) t)) (value (cuts 14 4 (lit≤ tt) t))
-      (value (cuts 21 4 (lit≤ tt) t))) (voicingOf h p)) 0)
+  class_ext class.Erased = refl
+  class_ext (class.Voiced p) =
+      (λ t. Accepted (Voiced (indices_ext (value (cut g 0 4)) (value (cut g 8 3)) (value (cut g 14 4)) (value (cut g 21 4)) t) (voicing_ext p t)) 0)
+      ∙ (λ t. Accepted (Voiced (indices_of h (value (cuts 0 4 (lit≤ tt) t)) (value (cuts 8 3 (lit≤ tt) t)) (value (cuts 14 4 (lit≤ tt) t))
+      (value (cuts 21 4 (lit≤ tt) t))) (voicing_of h p)) 0)
 
   -- bits that agree from 0 to 52 are read alike
-  pub read-ext : read g ≡ read h
+  pub read_ext : read g ≡ read h
   unfolding read
-  read-ext = class-ext (classOf (pitchBits g)) ∙ ap (λ (p : List Bool). byClass h (classOf p)) (cuts 28 7 (lit≤ tt))
+  read_ext = class_ext (class_of (pitch_bits g)) ∙ ap (λ (p : List Bool). by_class h (class_of p)) (cuts 28 7 (lit≤ tt))

@@ -7,8 +7,8 @@ use native.Mathlib.Omega.{arith}
 use Rattle.hamming.specs.Word.{Bounded}
 use Rattle.hamming.specs.declared.Decoded.{Decoded}
 use Rattle.hamming.specs.declared.Decoded.TheVariants as word
-use Rattle.order.specs.Fields.{pitchBits}
-use Rattle.reading.specs.Reading.{indicesOf, pitchRepaired, fromWords}
+use Rattle.order.specs.Fields.{pitch_bits}
+use Rattle.reading.specs.Reading.{indices_of, pitch_repaired, from_words}
 use Rattle.sets.specs.declared.Indices.{Indices}
 use Rattle.sets.specs.declared.ParameterSet.TheVariants.{Unvoiced}
 use Rattle.reading.specs.declared.Reading.TheVariants.{Accepted}
@@ -25,8 +25,8 @@ Bounds ua ub uc ud i j k l = ((ua < 16) × (ub < 8) × (uc < 16) × (ud < 16)) �
 module _ (a b c d : Decoded) (ua i ub j uc k ud l : ℕ)
     (ea : a ≡ word.Read ua i) (eb : b ≡ word.Read ub j) (ec : c ≡ word.Read uc k) (ed : d ≡ word.Read ud l) where
   -- outcomes that fit are within the bounds
-  pub outcomes-bounds : Outcomes a b c d → Bounds ua ub uc ud i j k l
-  outcomes-bounds f =
+  pub outcomes_bounds : Outcomes a b c d → Bounds ua ub uc ud i j k l
+  outcomes_bounds f =
       let x = subst (Bounded 8) ea f.0 in
       let y = subst (Bounded 6) eb f.1 in
       let z = subst (Bounded 7) ec f.2 in
@@ -34,7 +34,7 @@ module _ (a b c d : Decoded) (ua i ub j uc k ud l : ℕ)
       ((x.0, y.0, z.0, w.0), omega (arith, x.1, y.1, z.1, w.1))
 
   -- the set from the data, and all repairs added up
-  pub outcomes-read : (g : ℕ → Bool) (x : Indices) (n : ℕ) → x ≡ indicesOf g ua ub uc ud → n ≡ pitchRepaired (pitchBits g) + i + j + k + l
-      → Accepted (Unvoiced x) n ≡ fromWords g a b c d
-  outcomes-read g x n ex en =
-      ap₂ (λ (t : Indices) (m : ℕ). Accepted (Unvoiced t) m) ex en ∙ (λ t. fromWords g (sym ea t) (sym eb t) (sym ec t) (sym ed t))
+  pub outcomes_read : (g : ℕ → Bool) (x : Indices) (n : ℕ) → x ≡ indices_of g ua ub uc ud → n ≡ pitch_repaired (pitch_bits g) + i + j + k + l
+      → Accepted (Unvoiced x) n ≡ from_words g a b c d
+  outcomes_read g x n ex en =
+      ap₂ (λ (t : Indices) (m : ℕ). Accepted (Unvoiced t) m) ex en ∙ (λ t. from_words g (sym ea t) (sym eb t) (sym ec t) (sym ed t))

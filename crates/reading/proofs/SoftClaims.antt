@@ -6,69 +6,69 @@ use mathlib.Core.List.{List}
 use Prim.Native.Nat.{ℕ}
 use native.Mathlib.Omega.{arith}
 use Rattle.bits.specs.Bits.{ones}
-use Rattle.pitch.specs.Pitch.{classOf}
+use Rattle.pitch.specs.Pitch.{class_of}
 use Rattle.pitch.specs.declared.PitchClass.TheVariants as class
 use Rattle.hamming.specs.declared.Decoded.{Decoded}
 use Rattle.hamming.specs.declared.Decoded.TheVariants as word
-use Rattle.hamming.proofs.Erasures.{isErased, decode-erased}
-use Rattle.order.specs.Fields.{wordA, wordB, wordC, wordD, pitchBits}
+use Rattle.hamming.proofs.Erasures.{is_erased, decode_erased}
+use Rattle.order.specs.Fields.{word_a, word_b, word_c, word_d, pitch_bits}
 use Rattle.sets.specs.declared.ParameterSet.TheVariants.{Unvoiced}
 use Rattle.soft.specs.Choice.{differing, chosen, choose}
 use Rattle.soft.specs.Claims.{Tied}
 use Rattle.soft.proofs.Claims.{claims}
-use Rattle.reading.specs.Reading.{fromWords}
-use Rattle.reading.specs.SoftReading.{softByClass, softRead}
-use Rattle.reading.specs.SoftClaims.{SpareShown, AllEqual, takenB, takenC, takenD, takenIndices, placesDiffering, SoftClaims}
+use Rattle.reading.specs.Reading.{from_words}
+use Rattle.reading.specs.SoftReading.{soft_by_class, soft_read}
+use Rattle.reading.specs.SoftClaims.{SpareShown, AllEqual, taken_b, taken_c, taken_d, taken_indices, places_differing, SoftClaims}
 use Rattle.reading.specs.declared.Reading.TheVariants.{Accepted, Erased}
-use Rattle.reading.proofs.Erasures.{spare-read}
-use Rattle.reading.proofs.SoftExtent.{soft-alone}
-use Rattle.reading.proofs.SoftEqual.{equal-a, equal-read}
+use Rattle.reading.proofs.Erasures.{spare_read}
+use Rattle.reading.proofs.SoftExtent.{soft_alone}
+use Rattle.reading.proofs.SoftEqual.{equal_a, equal_read}
 
 -- a word other than A is always read
 read_word : (n : ℕ) (q : List ℕ) (w : List Bool) → (n ≡ 8 → ⊥) → choose n q w ≡ word.Read (chosen n q w) (ones (differing n w (chosen n q w)))
 read_word n q w h = (claims.outcomes n q w).single (λ e. absurd (h e))
 
 module _ (g : ℕ → Bool) (q : ℕ → ℕ) where
-  read-b : choose 6 (wordB q) (wordB g) ≡ word.Read (takenB g q) (ones (differing 6 (wordB g) (takenB g q)))
-  read-b = read_word 6 (wordB q) (wordB g) (λ e. omega arith)
+  read_b : choose 6 (word_b q) (word_b g) ≡ word.Read (taken_b g q) (ones (differing 6 (word_b g) (taken_b g q)))
+  read_b = read_word 6 (word_b q) (word_b g) (λ e. omega arith)
 
-  read-c : choose 7 (wordC q) (wordC g) ≡ word.Read (takenC g q) (ones (differing 7 (wordC g) (takenC g q)))
-  read-c = read_word 7 (wordC q) (wordC g) (λ e. omega arith)
+  read_c : choose 7 (word_c q) (word_c g) ≡ word.Read (taken_c g q) (ones (differing 7 (word_c g) (taken_c g q)))
+  read_c = read_word 7 (word_c q) (word_c g) (λ e. omega arith)
 
-  read-d : choose 7 (wordD q) (wordD g) ≡ word.Read (takenD g q) (ones (differing 7 (wordD g) (takenD g q)))
-  read-d = read_word 7 (wordD q) (wordD g) (λ e. omega arith)
+  read_d : choose 7 (word_d q) (word_d g) ≡ word.Read (taken_d g q) (ones (differing 7 (word_d g) (taken_d g q)))
+  read_d = read_word 7 (word_d q) (word_d g) (λ e. omega arith)
 
-  module _ (u : classOf (pitchBits g) ≡ class.Unvoiced) where
-    unvoiced-is : softRead g q ≡ softByClass g q class.Unvoiced
-    unfolding softRead
-    unvoiced-is = ap (softByClass g q) u
+  module _ (u : class_of (pitch_bits g) ≡ class.Unvoiced) where
+    unvoiced_is : soft_read g q ≡ soft_by_class g q class.Unvoiced
+    unfolding soft_read
+    unvoiced_is = ap (soft_by_class g q) u
 
     -- two or more cheapest in word A
-    tied-erased : Tied 8 (wordA q) (wordA g) → softRead g q ≡ Erased
-    tied-erased t =
-        unvoiced-is
-        ∙ ap (λ (a : Decoded). fromWords g a (choose 6 (wordB q) (wordB g)) (choose 7 (wordC q) (wordC g)) (choose 7 (wordD q) (wordD g)))
-        ((claims.outcomes 8 (wordA q) (wordA g)).tied refl t)
+    tied_erased : Tied 8 (word_a q) (word_a g) → soft_read g q ≡ Erased
+    tied_erased t =
+        unvoiced_is
+        ∙ ap (λ (a : Decoded). from_words g a (choose 6 (word_b q) (word_b g)) (choose 7 (word_c q) (word_c g)) (choose 7 (word_d q) (word_d g)))
+        ((claims.outcomes 8 (word_a q) (word_a g)).tied refl t)
 
     -- one
-    single-taken : (Tied 8 (wordA q) (wordA g) → ⊥) → softRead g q ≡ Accepted (Unvoiced (takenIndices g q)) (placesDiffering g q)
-    single-taken s =
-        let a = (claims.outcomes 8 (wordA q) (wordA g)).single (λ e. s) in
-        unvoiced-is ∙ (λ t. fromWords g (a t) (read-b t) (read-c t) (read-d t))
+    single_taken : (Tied 8 (word_a q) (word_a g) → ⊥) → soft_read g q ≡ Accepted (Unvoiced (taken_indices g q)) (places_differing g q)
+    single_taken s =
+        let a = (claims.outcomes 8 (word_a q) (word_a g)).single (λ e. s) in
+        unvoiced_is ∙ (λ t. from_words g (a t) (read_b t) (read_c t) (read_d t))
 
   -- where the spare is shown, word A is read without confidences, so there is no tie in it
-  spare-taken : (k : ℕ) → AllEqual k q → SpareShown g → softRead g q ≡ Accepted (Unvoiced (takenIndices g q)) (placesDiffering g q)
-  spare-taken k all s =
-      single-taken s.unvoiced (λ t.
-      true≢false (sym (ap isErased ((claims.outcomes 8 (wordA q) (wordA g)).tied refl t)) ∙ ap isErased (equal-a g q k all) ∙ decode-erased 8 (wordA g) ∙ s.kept))
+  spare_taken : (k : ℕ) → AllEqual k q → SpareShown g → soft_read g q ≡ Accepted (Unvoiced (taken_indices g q)) (places_differing g q)
+  spare_taken k all s =
+      single_taken s.unvoiced (λ t.
+      true≢false (sym (ap is_erased ((claims.outcomes 8 (word_a q) (word_a g)).tied refl t)) ∙ ap is_erased (equal_a g q k all) ∙ decode_erased 8 (word_a g) ∙ s.kept))
 
 -- all of it
-pub soft-claims : (g : ℕ → Bool) (q : ℕ → ℕ) → SoftClaims g q
-soft-claims g q = record {
-  alone = soft-alone g q;
-  tied = tied-erased g q;
-  taken = single-taken g q;
-  equal = equal-read g q;
-  spare-erased = λ s. spare-read g s.unvoiced s.spare;
-  spare-read = spare-taken g q;
+pub soft_claims : (g : ℕ → Bool) (q : ℕ → ℕ) → SoftClaims g q
+soft_claims g q = record {
+  alone = soft_alone g q;
+  tied = tied_erased g q;
+  taken = single_taken g q;
+  equal = equal_read g q;
+  spare_erased = λ s. spare_read g s.unvoiced s.spare;
+  spare_read = spare_taken g q;
 }

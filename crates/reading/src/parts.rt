@@ -1,7 +1,7 @@
 // Parts of 54 logical bits, carried in one number. Logical bit 0 is the most significant.
 ghost use Rattle.std.specs.Prelude.{◌≡◌, ◌+◌, ◌≤◌, ◌<◌, ◌^◌};
 ghost use Rattle.bits.specs.Bits.{value, cut, carried};
-ghost use Rattle.reading.specs.Reading.{indicesOf, voicingOf};
+ghost use Rattle.reading.specs.Reading.{indices_of, voicing_of};
 
 use sets::{Indices, Voicing};
 
@@ -17,7 +17,7 @@ pub(crate) fn part(bits: u64, first: usize, count: usize) -> u8
 // The indices of every set, from the data of the four words and the other bits.
 pub(crate) fn indices(bits: u64, a: u8, b: u8, c: u8, d: u8) -> Indices
     requires { (a < 16) × (b < 8) × (c < 16) × (d < 16) }
-    ensures { result ≡ indicesOf (carried 54 bits) a b c d }
+    ensures { result ≡ indices_of (carried 54 bits) a b c d }
 {
     Indices {
         l1: a * 8 + b,
@@ -31,7 +31,7 @@ pub(crate) fn indices(bits: u64, a: u8, b: u8, c: u8, d: u8) -> Indices
 
 // What a voiced set has besides, from the parity places of its words and its pitch index.
 pub(crate) fn voicing(bits: u64, pitch: u8) -> Voicing
-    ensures { result ≡ voicingOf (carried 54 bits) pitch }
+    ensures { result ≡ voicing_of (carried 54 bits) pitch }
 {
     let fourier = part(bits, 11, 3) * 32 + (part(bits, 18, 3) * 4 + part(bits, 25, 2));
     Voicing {

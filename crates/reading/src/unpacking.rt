@@ -2,9 +2,9 @@
 ghost use Rattle.std.specs.Prelude.{◌≡◌, ◌+◌, ◌≤◌};
 ghost use Rattle.bits.specs.Bits.{carried};
 ghost use Rattle.hamming.specs.Word.{Bounded};
-ghost use Rattle.order.specs.Fields.{pitchBits};
+ghost use Rattle.order.specs.Fields.{pitch_bits};
 ghost use Rattle.pitch.specs.declared.PitchClass.TheVariants as class;
-ghost use Rattle.reading.specs.Reading.{pitchRepaired, fromWords, byClass, read};
+ghost use Rattle.reading.specs.Reading.{pitch_repaired, from_words, by_class, read};
 
 use crate::Reading;
 use crate::parts::{indices, part, voicing};
@@ -15,7 +15,7 @@ use sets::ParameterSet;
 
 // A voiced frame: the bits as they stand.
 pub(crate) fn voiced(bits: u64, pitch: u8) -> Reading
-    ensures { result ≡ byClass (carried 54 bits) (class.Voiced pitch) }
+    ensures { result ≡ by_class (carried 54 bits) (class.Voiced pitch) }
 {
     let a = part(bits, 0, 4);
     let b = part(bits, 8, 3);
@@ -28,7 +28,7 @@ pub(crate) fn voiced(bits: u64, pitch: u8) -> Reading
 // The repaired count of an unvoiced frame: that of its pitch code, and those of its words.
 fn repaired_in(bits: u64, i: u8, j: u8, k: u8, l: u8) -> u8
     requires { i + j + k + l ≤ 28 }
-    ensures { result ≡ pitchRepaired (pitchBits (carried 54 bits)) + i + j + k + l }
+    ensures { result ≡ pitch_repaired (pitch_bits (carried 54 bits)) + i + j + k + l }
 {
     pitch_repaired(part(bits, 28, 7)) + i + j + k + l
 }
@@ -36,7 +36,7 @@ fn repaired_in(bits: u64, i: u8, j: u8, k: u8, l: u8) -> u8
 // An unvoiced frame, from the outcomes of its four words, however they were chosen.
 pub(crate) fn from_words(bits: u64, a: Decoded, b: Decoded, c: Decoded, d: Decoded) -> Reading
     requires { Bounded 8 a × Bounded 6 b × Bounded 7 c × Bounded 7 d }
-    ensures { result ≡ fromWords (carried 54 bits) a b c d }
+    ensures { result ≡ from_words (carried 54 bits) a b c d }
 {
     let Decoded::Read(ua, i) = a else {
         return Reading::Erased;
@@ -56,7 +56,7 @@ pub(crate) fn from_words(bits: u64, a: Decoded, b: Decoded, c: Decoded, d: Decod
 
 // An unvoiced frame: each word is checked and repaired.
 fn unvoiced(bits: u64) -> Reading
-    ensures { result ≡ byClass (carried 54 bits) class.Unvoiced }
+    ensures { result ≡ by_class (carried 54 bits) class.Unvoiced }
 {
     let a = decode(WordLength::Eight, part(bits, 0, 8));
     let b = decode(WordLength::Six, part(bits, 8, 6));

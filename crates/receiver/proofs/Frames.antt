@@ -7,20 +7,20 @@ use lib.ListN.{take, drop}
 use Rattle.receiver.specs.declared.Received.{Received}
 use Rattle.records.specs.declared.Record.{Record}
 use Rattle.receiver.specs.Receiving.{receive}
-use Rattle.receiver.specs.Frames.{frame_at, recordAfter, answerAt}
+use Rattle.receiver.specs.Frames.{frame_at, record_after, answer_at}
 
 module _ (ord bytes : List ℕ) (k : ℕ) (r : Record) (x : Received)
-    (h : x ≡ receive ord r (take (7 * k + 7 - 7 * k) (drop (7 * k) bytes))) (e : r ≡ recordAfter ord bytes k) where
+    (h : x ≡ receive ord r (take (7 * k + 7 - 7 * k) (drop (7 * k) bytes))) (e : r ≡ record_after ord bytes k) where
   -- the receiver took frame k
-  received_is : x ≡ receive ord (recordAfter ord bytes k) (frame_at bytes k)
+  received_is : x ≡ receive ord (record_after ord bytes k) (frame_at bytes k)
   received_is =
       let n : 7 * k + 7 - 7 * k ≡ 7 = omega arith in
       h ∙ (λ i. receive ord (e i) (take (n i) (drop (7 * k) bytes)))
 
-  pub answer-is : x.answer ≡ answerAt ord bytes k
-  unfolding answerAt
-  answer-is = ap (λ (y : Received). y.answer) received_is
+  pub answer_is : x.answer ≡ answer_at ord bytes k
+  unfolding answer_at
+  answer_is = ap (λ (y : Received). y.answer) received_is
 
-  pub next-is : x.next ≡ recordAfter ord bytes (suc k)
-  unfolding recordAfter
-  next-is = ap (λ (y : Received). y.next) received_is
+  pub next_is : x.next ≡ record_after ord bytes (suc k)
+  unfolding record_after
+  next_is = ap (λ (y : Received). y.next) received_is

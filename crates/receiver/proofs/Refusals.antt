@@ -9,58 +9,58 @@ use lib.Dec.{T, eqb}
 use lib.ListN.{length}
 use borrow.Author.Tests.{eq-eqb}
 use Rattle.bits.specs.Bits.{ones}
-use Rattle.bits.specs.Refusals.{Table, firstRefusal}
-use Rattle.bits.proofs.Tests.{true-T}
-use Rattle.bits.proofs.Refusals.{first-append}
-use Rattle.order.specs.Order.{is_order, logicalBit, frameTable, frameRefusal}
-use Rattle.order.proofs.Orders.{is-order}
-use Rattle.order.proofs.Refusals.{frame-taken-only}
+use Rattle.bits.specs.Refusals.{Table, first_refusal}
+use Rattle.bits.proofs.Tests.{true_T}
+use Rattle.bits.proofs.Refusals.{first_append}
+use Rattle.order.specs.Order.{is_order, logical_bit, frame_table, frame_refusal}
+use Rattle.order.proofs.Orders.{is_order_lem}
+use Rattle.order.proofs.Refusals.{frame_taken_only}
 use Rattle.reading.specs.Reading.{read}
 use Rattle.records.specs.Records.{valid}
 use Rattle.receiver.specs.Steps.{step}
-use Rattle.receiver.specs.Receiving.{recordTable, receiveRefusal, receiveUnless, receive}
+use Rattle.receiver.specs.Receiving.{record_table, receive_refusal, receive_unless, receive}
 use Rattle.records.specs.declared.Record.{Record}
 
 -- where the frame is taken, the rest of a table decides
-pub frame-passes : (ord bytes : List ℕ) (rest : Table) → frameRefusal ord bytes ≡ 0 → firstRefusal (frameTable ord bytes ++ rest) ≡ firstRefusal rest
-frame-passes ord bytes rest e =
-    let t = frame-taken-only ord bytes e in
+pub frame_passes : (ord bytes : List ℕ) (rest : Table) → frame_refusal ord bytes ≡ 0 → first_refusal (frame_table ord bytes ++ rest) ≡ first_refusal rest
+frame_passes ord bytes rest e =
+    let t = frame_taken_only ord bytes e in
     let size = eq-eqb (length bytes) 7 t.size in
-    let order = true-T (is_order ord) (is-order ord t.order) in
-    λ i. firstRefusal ((not (size i), 2) ∷ (not (order i), 10) ∷ (not (eqb (ones (t.clear i)) 0), 3) ∷ rest)
+    let order = true_T (is_order ord) (is_order_lem ord t.order) in
+    λ i. first_refusal ((not (size i), 2) ∷ (not (order i), 10) ∷ (not (eqb (ones (t.clear i)) 0), 3) ∷ rest)
 
 module _ (ord : List ℕ) (r : Record) (bytes : List ℕ) where
   -- so the record does
-  record-decides : (b : Bool) → frameRefusal ord bytes ≡ 0 → valid r ≡ b → receiveRefusal ord r bytes ≡ firstRefusal ((not b, 4) ∷ [])
-  record-decides b e v = frame-passes ord bytes (recordTable r) e ∙ ap (λ (t : Bool). firstRefusal ((not t, 4) ∷ [])) v
+  record_decides : (b : Bool) → frame_refusal ord bytes ≡ 0 → valid r ≡ b → receive_refusal ord r bytes ≡ first_refusal ((not b, 4) ∷ [])
+  record_decides b e v = frame_passes ord bytes (record_table r) e ∙ ap (λ (t : Bool). first_refusal ((not t, 4) ∷ [])) v
 
   -- a record that is not valid is refused
-  pub record-refused : frameRefusal ord bytes ≡ 0 → valid r ≡ false → receiveRefusal ord r bytes ≡ 4
-  record-refused e v = record-decides false e v
+  pub record_refused : frame_refusal ord bytes ≡ 0 → valid r ≡ false → receive_refusal ord r bytes ≡ 4
+  record_refused e v = record_decides false e v
 
   -- a frame that is taken and a valid record are not refused
-  pub not-refused : frameRefusal ord bytes ≡ 0 → T (valid r) → receiveRefusal ord r bytes ≡ 0
-  not-refused e v = record-decides true e (true-T (valid r) v)
+  pub not_refused : frame_refusal ord bytes ≡ 0 → T (valid r) → receive_refusal ord r bytes ≡ 0
+  not_refused e v = record_decides true e (true_T (valid r) v)
 
   -- where the frame is refused, so is the call, with the same number
-  pub frame_refused : (n : ℕ) → frameRefusal ord bytes ≡ suc n → receiveRefusal ord r bytes ≡ suc n
-  frame_refused n e = first-append (frameTable ord bytes) (recordTable r) n e
+  pub frame_refused : (n : ℕ) → frame_refusal ord bytes ≡ suc n → receive_refusal ord r bytes ≡ suc n
+  frame_refused n e = first_append (frame_table ord bytes) (record_table r) n e
 
   -- no others are let through
-  pub not-refused-only : receiveRefusal ord r bytes ≡ 0 → (frameRefusal ord bytes ≡ 0) × T (valid r)
-  not-refused-only e = go (frameRefusal ord bytes) (valid r) refl refl
+  pub not_refused_only : receive_refusal ord r bytes ≡ 0 → (frame_refusal ord bytes ≡ 0) × T (valid r)
+  not_refused_only e = go (frame_refusal ord bytes) (valid r) refl refl
     where
-      go : (n : ℕ) (b : Bool) → frameRefusal ord bytes ≡ n → valid r ≡ b → (frameRefusal ord bytes ≡ 0) × T (valid r)
+      go : (n : ℕ) (b : Bool) → frame_refusal ord bytes ≡ n → valid r ≡ b → (frame_refusal ord bytes ≡ 0) × T (valid r)
       go zero true f w = (f, subst T (sym w) tt)
-      go zero false f w = absurd (omega (arith, e, record-refused f w))
+      go zero false f w = absurd (omega (arith, e, record_refused f w))
       go (suc n) b f w = absurd (omega (arith, e, frame_refused n f))
 
   -- a call that is not refused takes one step by what the bits are read as
-  pub receive-taken : receiveRefusal ord r bytes ≡ 0 → receive ord r bytes ≡ step r (logicalBit ord bytes 53) (read (logicalBit ord bytes))
+  pub receive_taken : receive_refusal ord r bytes ≡ 0 → receive ord r bytes ≡ step r (logical_bit ord bytes 53) (read (logical_bit ord bytes))
   unfolding receive
-  receive-taken e = ap (λ (n : ℕ). receiveUnless n ord r bytes) e
+  receive_taken e = ap (λ (n : ℕ). receive_unless n ord r bytes) e
 
   -- a refused call leaves the record
-  pub receive-refused : (n : ℕ) → receiveRefusal ord r bytes ≡ suc n → (receive ord r bytes).next ≡ r
+  pub receive_refused : (n : ℕ) → receive_refusal ord r bytes ≡ suc n → (receive ord r bytes).next ≡ r
   unfolding receive
-  receive-refused n e = ap (λ (m : ℕ). (receiveUnless m ord r bytes).next) e
+  receive_refused n e = ap (λ (m : ℕ). (receive_unless m ord r bytes).next) e

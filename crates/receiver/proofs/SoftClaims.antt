@@ -4,70 +4,70 @@ use mathlib.Core.Path.{◌≡◌, refl, sym, ap, ◌∙◌}
 use mathlib.Core.List.{List, [], append_assoc}
 use Prim.Native.Nat.{ℕ, zero, suc, ◌<◌}
 use native.Mathlib.Omega.{arith}
-use Rattle.bits.specs.Refusals.{firstRefusal}
+use Rattle.bits.specs.Refusals.{first_refusal}
 use lib.ListN.{length, replicate, length-replicate, get_or-replicate}
 use borrow.Author.Tests.{eq-eqb}
-use Rattle.order.specs.Order.{Order, placeOf, logicalBit, frameTable}
-use Rattle.order.proofs.Places.{place-lt}
-use Rattle.order.proofs.Refusals.{frame-taken-only}
+use Rattle.order.specs.Order.{Order, place_of, logical_bit, frame_table}
+use Rattle.order.proofs.Places.{place_lt}
+use Rattle.order.proofs.Refusals.{frame_taken_only}
 use Rattle.reading.specs.Reading.{read}
-use Rattle.order.specs.SoftTaking.{confidenceOf, confidenceTable}
-use Rattle.reading.specs.SoftReading.{softRead}
+use Rattle.order.specs.SoftTaking.{confidence_of, confidence_table}
+use Rattle.reading.specs.SoftReading.{soft_read}
 use Rattle.reading.specs.SoftClaims.{SpareShown, AllEqual}
-use Rattle.reading.proofs.SoftClaims.{soft-claims}
+use Rattle.reading.proofs.SoftClaims.{soft_claims}
 use Rattle.records.specs.declared.Record.{Record}
-use Rattle.receiver.specs.Steps.{step, stepUnless}
-use Rattle.receiver.specs.Receiving.{recordTable, receiveRefusal, receiveUnless, receive}
-use Rattle.receiver.specs.SoftReceiving.{softRefusal, softUnless, softReceive}
+use Rattle.receiver.specs.Steps.{step, step_unless}
+use Rattle.receiver.specs.Receiving.{record_table, receive_refusal, receive_unless, receive}
+use Rattle.receiver.specs.SoftReceiving.{soft_refusal, soft_unless, soft_receive}
 use Rattle.receiver.specs.SoftClaims.{SoftClaims}
-use Rattle.receiver.proofs.Refusals.{not-refused-only, receive-taken}
-use Rattle.receiver.proofs.SoftRefusals.{soft-taken}
+use Rattle.receiver.proofs.Refusals.{not_refused_only, receive_taken}
+use Rattle.receiver.proofs.SoftRefusals.{soft_taken}
 
 -- 54 confidences refuse nothing that is not refused without them
-soft-refusal-is : (ord : List ℕ) (r : Record) (bytes confidences : List ℕ) → length confidences ≡ 54 → softRefusal ord r bytes confidences ≡ receiveRefusal ord r bytes
-soft-refusal-is ord r bytes confidences h =
-    ap firstRefusal (append_assoc (frameTable ord bytes) (confidenceTable confidences) (recordTable r)) ∙ simp (eq-eqb (length confidences) 54 h)
+soft_refusal_is : (ord : List ℕ) (r : Record) (bytes confidences : List ℕ) → length confidences ≡ 54 → soft_refusal ord r bytes confidences ≡ receive_refusal ord r bytes
+soft_refusal_is ord r bytes confidences h =
+    ap first_refusal (append_assoc (frame_table ord bytes) (confidence_table confidences) (record_table r)) ∙ simp (eq-eqb (length confidences) 54 h)
 
 -- in any order the confidences of 54 equal ones are those
-all-equal : (ord : List ℕ) → Order ord → (k : ℕ) → 0 < k → AllEqual k (confidenceOf ord (replicate 54 k))
-all-equal ord o k h = record { above = h; equal = λ j b. get_or-replicate 54 (placeOf ord j) k 0 (place-lt ord o j (omega arith)) }
+all_equal : (ord : List ℕ) → Order ord → (k : ℕ) → 0 < k → AllEqual k (confidence_of ord (replicate 54 k))
+all_equal ord o k h = record { above = h; equal = λ j b. get_or-replicate 54 (place_of ord j) k 0 (place_lt ord o j (omega arith)) }
 
 module _ (ord : List ℕ) (r : Record) (bytes : List ℕ) where
   -- bits that are read alike are received alike
-  pub alike : (confidences : List ℕ) → length confidences ≡ 54 → softRead (logicalBit ord bytes) (confidenceOf ord confidences) ≡ read (logicalBit ord bytes)
-      → softReceive ord r bytes confidences ≡ receive ord r bytes
-  unfolding softReceive receive
+  pub alike : (confidences : List ℕ) → length confidences ≡ 54 → soft_read (logical_bit ord bytes) (confidence_of ord confidences) ≡ read (logical_bit ord bytes)
+      → soft_receive ord r bytes confidences ≡ receive ord r bytes
+  unfolding soft_receive receive
   alike confidences h e =
-      ap (λ (n : ℕ). softUnless n r (logicalBit ord bytes) (confidenceOf ord confidences)) (soft-refusal-is ord r bytes confidences h)
-      ∙ ap (stepUnless (receiveRefusal ord r bytes) r (logicalBit ord bytes 53)) e
+      ap (λ (n : ℕ). soft_unless n r (logical_bit ord bytes) (confidence_of ord confidences)) (soft_refusal_is ord r bytes confidences h)
+      ∙ ap (step_unless (receive_refusal ord r bytes) r (logical_bit ord bytes 53)) e
 
   -- a call that is not refused is lent an order
-  ordered : receiveRefusal ord r bytes ≡ 0 → Order ord
-  ordered e = (frame-taken-only ord bytes (not-refused-only ord r bytes e).0).order
+  ordered : receive_refusal ord r bytes ≡ 0 → Order ord
+  ordered e = (frame_taken_only ord bytes (not_refused_only ord r bytes e).0).order
 
   -- 54 equal confidences above 0; where the call is refused, both ways refuse it alike
-  equal-alike : (k : ℕ) → 0 < k → (SpareShown (logicalBit ord bytes) → ⊥) → softReceive ord r bytes (replicate 54 k) ≡ receive ord r bytes
-  unfolding softReceive receive
-  equal-alike k h s = go (receiveRefusal ord r bytes) refl
+  equal_alike : (k : ℕ) → 0 < k → (SpareShown (logical_bit ord bytes) → ⊥) → soft_receive ord r bytes (replicate 54 k) ≡ receive ord r bytes
+  unfolding soft_receive receive
+  equal_alike k h s = go (receive_refusal ord r bytes) refl
     where
-      same : softRefusal ord r bytes (replicate 54 k) ≡ receiveRefusal ord r bytes
-      same = soft-refusal-is ord r bytes (replicate 54 k) (length-replicate 54 k)
+      same : soft_refusal ord r bytes (replicate 54 k) ≡ receive_refusal ord r bytes
+      same = soft_refusal_is ord r bytes (replicate 54 k) (length-replicate 54 k)
 
-      go : (n : ℕ) → receiveRefusal ord r bytes ≡ n → softReceive ord r bytes (replicate 54 k) ≡ receive ord r bytes
-      go zero e = alike (replicate 54 k) (length-replicate 54 k) ((soft-claims (logicalBit ord bytes) (confidenceOf ord (replicate 54 k))).equal k (all-equal ord (ordered e) k h) s)
+      go : (n : ℕ) → receive_refusal ord r bytes ≡ n → soft_receive ord r bytes (replicate 54 k) ≡ receive ord r bytes
+      go zero e = alike (replicate 54 k) (length-replicate 54 k) ((soft_claims (logical_bit ord bytes) (confidence_of ord (replicate 54 k))).equal k (all_equal ord (ordered e) k h) s)
       go (suc n) e =
-          ap (λ (m : ℕ). softUnless m r (logicalBit ord bytes) (confidenceOf ord (replicate 54 k))) (same ∙ e)
-          ∙ sym (ap (λ (m : ℕ). receiveUnless m ord r bytes) e)
+          ap (λ (m : ℕ). soft_unless m r (logical_bit ord bytes) (confidence_of ord (replicate 54 k))) (same ∙ e)
+          ∙ sym (ap (λ (m : ℕ). receive_unless m ord r bytes) e)
 
   -- all of it
-  pub soft-received : SoftClaims ord r bytes
-  soft-received = record {
-    alone = λ h confidences size. alike confidences size ((soft-claims (logicalBit ord bytes) (confidenceOf ord confidences)).alone h);
-    tied = λ confidences e u t. soft-taken ord r bytes confidences e ∙ ap (step r (logicalBit ord bytes 53)) ((soft-claims (logicalBit ord bytes) (confidenceOf ord confidences)).tied u t);
-    taken = λ confidences e u s. soft-taken ord r bytes confidences e ∙ ap (step r (logicalBit ord bytes 53)) ((soft-claims (logicalBit ord bytes) (confidenceOf ord confidences)).taken u s);
-    equal = equal-alike;
-    spare-repeated = λ s e. receive-taken ord r bytes e ∙ ap (step r (logicalBit ord bytes 53)) ((soft-claims (logicalBit ord bytes) (confidenceOf ord [])).spare-erased s);
-    spare-accepted = λ k h s e.
-        soft-taken ord r bytes (replicate 54 k) (soft-refusal-is ord r bytes (replicate 54 k) (length-replicate 54 k) ∙ e)
-        ∙ ap (step r (logicalBit ord bytes 53)) ((soft-claims (logicalBit ord bytes) (confidenceOf ord (replicate 54 k))).spare-read k (all-equal ord (ordered e) k h) s);
+  pub soft_received : SoftClaims ord r bytes
+  soft_received = record {
+    alone = λ h confidences size. alike confidences size ((soft_claims (logical_bit ord bytes) (confidence_of ord confidences)).alone h);
+    tied = λ confidences e u t. soft_taken ord r bytes confidences e ∙ ap (step r (logical_bit ord bytes 53)) ((soft_claims (logical_bit ord bytes) (confidence_of ord confidences)).tied u t);
+    taken = λ confidences e u s. soft_taken ord r bytes confidences e ∙ ap (step r (logical_bit ord bytes 53)) ((soft_claims (logical_bit ord bytes) (confidence_of ord confidences)).taken u s);
+    equal = equal_alike;
+    spare_repeated = λ s e. receive_taken ord r bytes e ∙ ap (step r (logical_bit ord bytes 53)) ((soft_claims (logical_bit ord bytes) (confidence_of ord [])).spare_erased s);
+    spare_accepted = λ k h s e.
+        soft_taken ord r bytes (replicate 54 k) (soft_refusal_is ord r bytes (replicate 54 k) (length-replicate 54 k) ∙ e)
+        ∙ ap (step r (logical_bit ord bytes 53)) ((soft_claims (logical_bit ord bytes) (confidence_of ord (replicate 54 k))).spare_read k (all_equal ord (ordered e) k h) s);
   }

@@ -5,55 +5,55 @@ use mathlib.Core.Bool.{Bool, not, ◌&&◌, and-true}
 use mathlib.Core.List.{List, [], ◌∷◌, ◌++◌}
 use Prim.Native.Nat.{ℕ, zero, suc}
 use lib.Dec.{eqb_refl}
-use Rattle.bits.specs.Refusals.{Table, firstRefusal}
-use Rattle.bits.proofs.Tests.{true-T}
-use Rattle.order.specs.Order.{logicalBit, frameTable}
+use Rattle.bits.specs.Refusals.{Table, first_refusal}
+use Rattle.bits.proofs.Tests.{true_T}
+use Rattle.order.specs.Order.{logical_bit, frame_table}
 use Rattle.reading.specs.Reading.{read}
-use Rattle.order.specs.SoftTaking.{confidenceOf, confidenceTable}
-use Rattle.reading.specs.SoftReading.{softRead}
+use Rattle.order.specs.SoftTaking.{confidence_of, confidence_table}
+use Rattle.reading.specs.SoftReading.{soft_read}
 use Rattle.reading.specs.declared.Reading.{Reading}
 use Rattle.reading.specs.declared.Reading.TheVariants.{Accepted, Erased}
-use Rattle.records.specs.Records.{repeatsIn, valid}
-use Rattle.records.specs.OldRecords.{validOld, oldTable, withCount}
+use Rattle.records.specs.Records.{repeats_in, valid}
+use Rattle.records.specs.OldRecords.{valid_old, old_table, with_count}
 use Rattle.records.specs.declared.OldRecord.{OldRecord}
-use Rattle.receiver.specs.Steps.{accepted, repeated, step, stepUnless}
-use Rattle.receiver.specs.Receiving.{recordTable, receive}
-use Rattle.receiver.specs.SoftReceiving.{softReceive}
-use Rattle.receiver.specs.OldReceiving.{oldStep, oldUnless, oldReceive, oldSoftReceive}
-use Rattle.receiver.specs.TakenOver.{inStep, TakenOverRecord, TakenOverClaim}
+use Rattle.receiver.specs.Steps.{accepted, repeated, step, step_unless}
+use Rattle.receiver.specs.Receiving.{record_table, receive}
+use Rattle.receiver.specs.SoftReceiving.{soft_receive}
+use Rattle.receiver.specs.OldReceiving.{old_step, old_unless, old_receive, old_soft_receive}
+use Rattle.receiver.specs.TakenOver.{in_step, TakenOverRecord, TakenOverClaim}
 
 module _ (old : OldRecord) where
   -- valid where the old one is, so refused where it is
-  taken-valid : valid (withCount old) ≡ validOld old
-  taken-valid = ap (λ (b : Bool). validOld old && b) (true-T _ (eqb_refl (repeatsIn old.kinds))) ∙ and-true (validOld old)
+  taken_valid : valid (with_count old) ≡ valid_old old
+  taken_valid = ap (λ (b : Bool). valid_old old && b) (true_T _ (eqb_refl (repeats_in old.kinds))) ∙ and-true (valid_old old)
 
-  taken-table : recordTable (withCount old) ≡ oldTable old
-  taken-table = ap (λ (b : Bool). (not b, 4) ∷ []) taken-valid
+  taken_table : record_table (with_count old) ≡ old_table old
+  taken_table = ap (λ (b : Bool). (not b, 4) ∷ []) taken_valid
 
-  pub taken-record : TakenOverRecord old
-  taken-record = record { as-valid = taken-valid; as-refused = ap firstRefusal taken-table }
+  pub taken_record : TakenOverRecord old
+  taken_record = record { as_valid = taken_valid; as_refused = ap first_refusal taken_table }
 
   -- a step
-  taken_step : (sync : Bool) (x : Reading) → step (withCount old) sync x ≡ inStep (oldStep old sync x)
+  taken_step : (sync : Bool) (x : Reading) → step (with_count old) sync x ≡ in_step (old_step old sync x)
   unfolding accepted repeated
   taken_step sync (Accepted set k) = refl
   taken_step sync Erased = refl
 
-  taken-unless : (n : ℕ) (sync : Bool) (x : Reading) → stepUnless n (withCount old) sync x ≡ inStep (oldUnless n old sync x)
-  taken-unless zero sync x = taken_step sync x
-  taken-unless (suc n) sync x = refl
+  taken_unless : (n : ℕ) (sync : Bool) (x : Reading) → step_unless n (with_count old) sync x ≡ in_step (old_unless n old sync x)
+  taken_unless zero sync x = taken_step sync x
+  taken_unless (suc n) sync x = refl
 
   -- a call, by what its table has before the record and what its bits are read as
-  taken-call : (before : Table → Table) (sync : Bool) (x : Reading)
-      → stepUnless (firstRefusal (before (recordTable (withCount old)))) (withCount old) sync x ≡ inStep (oldUnless (firstRefusal (before (oldTable old))) old sync x)
-  taken-call before sync x =
-      ap (λ (t : Table). stepUnless (firstRefusal (before t)) (withCount old) sync x) taken-table ∙ taken-unless (firstRefusal (before (oldTable old))) sync x
+  taken_call : (before : Table → Table) (sync : Bool) (x : Reading)
+      → step_unless (first_refusal (before (record_table (with_count old)))) (with_count old) sync x ≡ in_step (old_unless (first_refusal (before (old_table old))) old sync x)
+  taken_call before sync x =
+      ap (λ (t : Table). step_unless (first_refusal (before t)) (with_count old) sync x) taken_table ∙ taken_unless (first_refusal (before (old_table old))) sync x
 
-  pub taken-over : (ord bytes : List ℕ) → TakenOverClaim ord old bytes
-  unfolding receive softReceive oldReceive oldSoftReceive
-  taken-over ord bytes =
-      let g = logicalBit ord bytes in
+  pub taken_over_lem : (ord bytes : List ℕ) → TakenOverClaim ord old bytes
+  unfolding receive soft_receive old_receive old_soft_receive
+  taken_over_lem ord bytes =
+      let g = logical_bit ord bytes in
       record {
-        plain = taken-call (λ t. frameTable ord bytes ++ t) (g 53) (read g);
-        soft = λ confidences. taken-call (λ t. (frameTable ord bytes ++ confidenceTable confidences) ++ t) (g 53) (softRead g (confidenceOf ord confidences));
+        plain = taken_call (λ t. frame_table ord bytes ++ t) (g 53) (read g);
+        soft = λ confidences. taken_call (λ t. (frame_table ord bytes ++ confidence_table confidences) ++ t) (g 53) (soft_read g (confidence_of ord confidences));
       }

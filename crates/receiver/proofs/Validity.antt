@@ -4,43 +4,43 @@ use mathlib.Core.Bool.{Bool}
 use mathlib.Core.List.{List}
 use Prim.Native.Nat.{ℕ, zero, suc}
 use lib.Dec.{T}
-use Rattle.order.specs.Order.{logicalBit}
-use Rattle.reading.specs.Reading.{read, readingFits}
-use Rattle.order.specs.SoftTaking.{confidenceOf}
-use Rattle.reading.specs.SoftReading.{softRead}
+use Rattle.order.specs.Order.{logical_bit}
+use Rattle.reading.specs.Reading.{read, reading_fits}
+use Rattle.order.specs.SoftTaking.{confidence_of}
+use Rattle.reading.specs.SoftReading.{soft_read}
 use Rattle.reading.specs.declared.Reading.{Reading}
 use Rattle.reading.proofs.Ranges.{read_fits}
-use Rattle.reading.proofs.SoftRanges.{soft-read-fits}
+use Rattle.reading.proofs.SoftRanges.{soft_read_fits}
 use Rattle.records.specs.Records.{valid}
 use Rattle.records.specs.declared.Record.{Record}
-use Rattle.records.proofs.Validity.{valid-count}
-use Rattle.receiver.specs.Steps.{stepUnless}
-use Rattle.receiver.specs.Receiving.{receiveRefusal, receive}
-use Rattle.receiver.specs.SoftReceiving.{softRefusal, softReceive}
+use Rattle.records.proofs.Validity.{valid_count}
+use Rattle.receiver.specs.Steps.{step_unless}
+use Rattle.receiver.specs.Receiving.{receive_refusal, receive}
+use Rattle.receiver.specs.SoftReceiving.{soft_refusal, soft_receive}
 use Rattle.receiver.specs.Validity.{StaysValid}
-use Rattle.receiver.proofs.Results.{step-valid}
+use Rattle.receiver.proofs.Results.{step_valid}
 
 -- a step, refused or not
-unless-valid : (n : ℕ) (r : Record) (sync : Bool) (x : Reading) → T (valid r) → T (readingFits x) → T (valid (stepUnless n r sync x).next)
-unless-valid zero r sync x v t = step-valid r sync x v t
-unless-valid (suc n) r sync x v t = v
+unless_valid : (n : ℕ) (r : Record) (sync : Bool) (x : Reading) → T (valid r) → T (reading_fits x) → T (valid (step_unless n r sync x).next)
+unless_valid zero r sync x v t = step_valid r sync x v t
+unless_valid (suc n) r sync x v t = v
 
 -- receiving any bytes leaves a valid record where it was given one
-pub receive-valid : (ord : List ℕ) (r : Record) (bytes : List ℕ) → T (valid r) → T (valid (receive ord r bytes).next)
+pub receive_valid : (ord : List ℕ) (r : Record) (bytes : List ℕ) → T (valid r) → T (valid (receive ord r bytes).next)
 unfolding receive
-receive-valid ord r bytes v = unless-valid (receiveRefusal ord r bytes) r (logicalBit ord bytes 53) (read (logicalBit ord bytes)) v (read_fits (logicalBit ord bytes))
+receive_valid ord r bytes v = unless_valid (receive_refusal ord r bytes) r (logical_bit ord bytes 53) (read (logical_bit ord bytes)) v (read_fits (logical_bit ord bytes))
 
 -- with confidences too
-soft-valid : (ord : List ℕ) (r : Record) (bytes confidences : List ℕ) → T (valid r) → T (valid (softReceive ord r bytes confidences).next)
-unfolding softReceive
-soft-valid ord r bytes confidences v =
-    unless-valid (softRefusal ord r bytes confidences) r (logicalBit ord bytes 53) (softRead (logicalBit ord bytes) (confidenceOf ord confidences)) v
-    (soft-read-fits (logicalBit ord bytes) (confidenceOf ord confidences))
+soft_valid : (ord : List ℕ) (r : Record) (bytes confidences : List ℕ) → T (valid r) → T (valid (soft_receive ord r bytes confidences).next)
+unfolding soft_receive
+soft_valid ord r bytes confidences v =
+    unless_valid (soft_refusal ord r bytes confidences) r (logical_bit ord bytes 53) (soft_read (logical_bit ord bytes) (confidence_of ord confidences)) v
+    (soft_read_fits (logical_bit ord bytes) (confidence_of ord confidences))
 
-pub stays-valid : (ord : List ℕ) (r : Record) (bytes : List ℕ) → StaysValid ord r bytes
-stays-valid ord r bytes = record {
-  plain = receive-valid ord r bytes;
-  soft = soft-valid ord r bytes;
-  number = λ v. valid-count (receive ord r bytes).next (receive-valid ord r bytes v);
-  soft-number = λ confidences v. valid-count (softReceive ord r bytes confidences).next (soft-valid ord r bytes confidences v);
+pub stays_valid : (ord : List ℕ) (r : Record) (bytes : List ℕ) → StaysValid ord r bytes
+stays_valid ord r bytes = record {
+  plain = receive_valid ord r bytes;
+  soft = soft_valid ord r bytes;
+  number = λ v. valid_count (receive ord r bytes).next (receive_valid ord r bytes v);
+  soft_number = λ confidences v. valid_count (soft_receive ord r bytes confidences).next (soft_valid ord r bytes confidences v);
 }

@@ -15,21 +15,21 @@ use Rattle.receiver.specs.contracts.ReceiveAnswer as ans
 use Rattle.receiver.proofs.ReceiveAnswer.TheLaws as ans-laws
 
 -- the machine values of a record
-abbrev pub rec-vals : Record → List Val
-rec-vals = structs.vals rec.the_type rec-laws.the_laws
+abbrev pub rec_vals : Record → List Val
+rec_vals = structs.vals rec.the_type rec-laws.the_laws
 
 -- and of what receiving returns
-abbrev pub got-vals : Received → List Val
-got-vals = structs.vals got.the_type got-laws.the_laws
+abbrev pub got_vals : Received → List Val
+got_vals = structs.vals got.the_type got-laws.the_laws
 
 -- the answer in it is well made
-pub is-answer : (r : Received) → Is got.the_row r (got-vals r) → Is ans.the_row r.answer (enums.vals ans.the_type ans-laws.the_laws r.answer)
-is-answer r is = (structs.owed got.the_type got-laws.the_laws r _ is).0
+pub is_answer : (r : Received) → Is got.the_row r (got_vals r) → Is ans.the_row r.answer (enums.vals ans.the_type ans-laws.the_laws r.answer)
+is_answer r is = (structs.owed got.the_type got-laws.the_laws r _ is).0
 
 -- so is the record in it
-pub is-next : (r : Received) → Is got.the_row r (got-vals r) → Is rec.the_row r.next (rec-vals r.next)
-is-next r is = (structs.owed got.the_type got-laws.the_laws r _ is).1.0
+pub is_next : (r : Received) → Is got.the_row r (got_vals r) → Is rec.the_row r.next (rec_vals r.next)
+is_next r is = (structs.owed got.the_type got-laws.the_laws r _ is).1.0
 
 -- the machine value of the answer
-abbrev pub answer-val : Received → Val
-answer-val r = enums.val ans.the_type ans-laws.the_laws r.answer
+abbrev pub answer_val : Received → Val
+answer_val r = enums.val ans.the_type ans-laws.the_laws r.answer

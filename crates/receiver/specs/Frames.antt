@@ -7,18 +7,18 @@ use Rattle.receiver.specs.declared.ReceiveAnswer.{ReceiveAnswer}
 use Rattle.receiver.specs.Receiving.{receive}
 
 -- how many whole frames there are
-abbrev pub framesIn : List ℕ → ℕ
-framesIn bytes = length bytes / 7
+abbrev pub frames_in : List ℕ → ℕ
+frames_in bytes = length bytes / 7
 
 -- frame k, counted from 0
 abbrev pub frame_at : List ℕ → ℕ → List ℕ
 frame_at bytes k = take 7 (drop (7 * k) bytes)
 
 -- the record after k frames
-unfoldable pub recordAfter : List ℕ → List ℕ → ℕ → Record
-recordAfter ord bytes zero = fresh
-recordAfter ord bytes (suc k) = (receive ord (recordAfter ord bytes k) (frame_at bytes k)).next
+unfoldable pub record_after : List ℕ → List ℕ → ℕ → Record
+record_after ord bytes zero = fresh
+record_after ord bytes (suc k) = (receive ord (record_after ord bytes k) (frame_at bytes k)).next
 
 -- what frame k is answered
-unfoldable pub answerAt : List ℕ → List ℕ → ℕ → ReceiveAnswer
-answerAt ord bytes k = (receive ord (recordAfter ord bytes k) (frame_at bytes k)).answer
+unfoldable pub answer_at : List ℕ → List ℕ → ℕ → ReceiveAnswer
+answer_at ord bytes k = (receive ord (record_after ord bytes k) (frame_at bytes k)).answer

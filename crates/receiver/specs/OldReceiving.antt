@@ -1,23 +1,23 @@
 -- The receiver with a record that does not hold how many of its kinds are repeats (document 01, "Receiver"): mute goes by a count of them at each frame.
 -- Bits are read by the rules of today (document 02, T-02 and T-05), in any order. It stands for T-06 alone: what a record taken over has to lead to.
 use Rattle.std.specs.Prelude.{ℕ, zero, suc, Bool, List, ◌++◌}
-use Rattle.bits.specs.Refusals.{firstRefusal}
-use Rattle.order.specs.Order.{logicalBit, frameTable}
-use Rattle.order.specs.Fields.{syncBit}
-use Rattle.order.specs.SoftTaking.{confidenceOf, confidenceTable}
-use Rattle.sets.specs.Sets.{indicesIn}
+use Rattle.bits.specs.Refusals.{first_refusal}
+use Rattle.order.specs.Order.{logical_bit, frame_table}
+use Rattle.order.specs.Fields.{sync_bit}
+use Rattle.order.specs.SoftTaking.{confidence_of, confidence_table}
+use Rattle.sets.specs.Sets.{indices_in}
 use Rattle.sets.specs.declared.ParameterSet.{ParameterSet}
 use Rattle.reading.specs.Reading.{read}
-use Rattle.reading.specs.SoftReading.{softRead}
+use Rattle.reading.specs.SoftReading.{soft_read}
 use Rattle.reading.specs.declared.Reading.{Reading}
 use Rattle.reading.specs.declared.Reading.TheVariants as reading
-use Rattle.records.specs.Records.{acceptedKind, repeatedKind, repeatsIn, muted}
-use Rattle.records.specs.OldRecords.{oldTable}
+use Rattle.records.specs.Records.{accepted_kind, repeated_kind, repeats_in, muted}
+use Rattle.records.specs.OldRecords.{old_table}
 use Rattle.records.specs.declared.OldRecord.{OldRecord}
 use Rattle.receiver.specs.declared.ReceiveAnswer.{ReceiveAnswer}
 use Rattle.receiver.specs.declared.ReceiveAnswer.TheVariants.{Result, Refused}
 use Rattle.receiver.specs.Next.{pushed}
-use Rattle.receiver.specs.Steps.{acceptedResult, repeatedResult}
+use Rattle.receiver.specs.Steps.{accepted_result, repeated_result}
 
 -- the answer and the next record
 pub record OldReceived : Type 0 where
@@ -25,34 +25,34 @@ pub record OldReceived : Type 0 where
   pub next : OldRecord
 
 -- the next record after an accepted frame, and after a repeat
-abbrev pub oldAfterAccepted : OldRecord → ParameterSet → OldRecord
-oldAfterAccepted old set = record { last = set; g2 = (indicesIn set).g2; kinds = pushed old.kinds acceptedKind }
+abbrev pub old_after_accepted : OldRecord → ParameterSet → OldRecord
+old_after_accepted old set = record { last = set; g2 = (indices_in set).g2; kinds = pushed old.kinds accepted_kind }
 
-abbrev pub oldAfterRepeat : OldRecord → OldRecord
-oldAfterRepeat old = record { last = old.last; g2 = old.g2; kinds = pushed old.kinds repeatedKind }
+abbrev pub old_after_repeat : OldRecord → OldRecord
+old_after_repeat old = record { last = old.last; g2 = old.g2; kinds = pushed old.kinds repeated_kind }
 
 -- what either yields and leaves: the kinds are counted with this frame among them
-abbrev pub oldStep : OldRecord → Bool → Reading → OldReceived
-oldStep old sync (reading.Accepted set repaired) = record {
-  answer = Result (acceptedResult old.g2 (muted (repeatsIn (oldAfterAccepted old set).kinds)) sync set repaired);
-  next = oldAfterAccepted old set;
+abbrev pub old_step : OldRecord → Bool → Reading → OldReceived
+old_step old sync (reading.Accepted set repaired) = record {
+  answer = Result (accepted_result old.g2 (muted (repeats_in (old_after_accepted old set).kinds)) sync set repaired);
+  next = old_after_accepted old set;
 }
-oldStep old sync reading.Erased = record {
-  answer = Result (repeatedResult old.last old.g2 (muted (repeatsIn (oldAfterRepeat old).kinds)) sync);
-  next = oldAfterRepeat old;
+old_step old sync reading.Erased = record {
+  answer = Result (repeated_result old.last old.g2 (muted (repeats_in (old_after_repeat old).kinds)) sync);
+  next = old_after_repeat old;
 }
 
 -- refused: the number, and the record stays
-abbrev pub oldUnless : ℕ → OldRecord → Bool → Reading → OldReceived
-oldUnless zero old sync x = oldStep old sync x
-oldUnless (suc n) old sync x = record { answer = Refused (suc n); next = old }
+abbrev pub old_unless : ℕ → OldRecord → Bool → Reading → OldReceived
+old_unless zero old sync x = old_step old sync x
+old_unless (suc n) old sync x = record { answer = Refused (suc n); next = old }
 
 -- a frame without confidences
-unfoldable pub oldReceive : List ℕ → OldRecord → List ℕ → OldReceived
-oldReceive ord old bytes = oldUnless (firstRefusal (frameTable ord bytes ++ oldTable old)) old (syncBit (logicalBit ord bytes)) (read (logicalBit ord bytes))
+unfoldable pub old_receive : List ℕ → OldRecord → List ℕ → OldReceived
+old_receive ord old bytes = old_unless (first_refusal (frame_table ord bytes ++ old_table old)) old (sync_bit (logical_bit ord bytes)) (read (logical_bit ord bytes))
 
 -- and with a confidence for each place
-unfoldable pub oldSoftReceive : List ℕ → OldRecord → List ℕ → List ℕ → OldReceived
-oldSoftReceive ord old bytes confidences =
-    oldUnless (firstRefusal ((frameTable ord bytes ++ confidenceTable confidences) ++ oldTable old)) old (syncBit (logicalBit ord bytes))
-    (softRead (logicalBit ord bytes) (confidenceOf ord confidences))
+unfoldable pub old_soft_receive : List ℕ → OldRecord → List ℕ → List ℕ → OldReceived
+old_soft_receive ord old bytes confidences =
+    old_unless (first_refusal ((frame_table ord bytes ++ confidence_table confidences) ++ old_table old)) old (sync_bit (logical_bit ord bytes))
+    (soft_read (logical_bit ord bytes) (confidence_of ord confidences))

@@ -1,7 +1,7 @@
 -- Document 01, "Receiver": what a frame yields and leaves, by what its bits are read as.
 use Rattle.std.specs.Prelude.{ℕ, zero, suc, Bool}
-use Rattle.gain.specs.Levels.{level, firstLevel}
-use Rattle.sets.specs.Sets.{indicesIn}
+use Rattle.gain.specs.Levels.{level, first_level}
+use Rattle.sets.specs.Sets.{indices_in}
 use Rattle.sets.specs.declared.ParameterSet.{ParameterSet}
 use Rattle.sets.specs.declared.ParameterSet.TheVariants.{Unvoiced, Voiced}
 use Rattle.reading.specs.declared.Reading.{Reading}
@@ -13,7 +13,7 @@ use Rattle.receiver.specs.declared.FrameResult.{FrameResult}
 use Rattle.receiver.specs.declared.ReceiveAnswer.TheVariants.{Result, Refused}
 use Rattle.receiver.specs.declared.Received.{Received}
 use Rattle.records.specs.Records.{muted}
-use Rattle.receiver.specs.Next.{afterAccepted, afterRepeat}
+use Rattle.receiver.specs.Next.{after_accepted, after_repeat}
 
 -- the kind of an accepted frame
 abbrev pub kind_of : ParameterSet → Kind
@@ -21,20 +21,20 @@ kind_of (Unvoiced x) = kind.Unvoiced
 kind_of (Voiced x v) = kind.Voiced
 
 -- the result of an accepted frame: its set; the first level goes by q, the G2 accepted before
-abbrev pub acceptedResult : ℕ → Bool → Bool → ParameterSet → ℕ → FrameResult
-acceptedResult q mute sync set repaired = record {
+abbrev pub accepted_result : ℕ → Bool → Bool → ParameterSet → ℕ → FrameResult
+accepted_result q mute sync set repaired = record {
   kind = kind_of set;
   set = set;
-  first = firstLevel (indicesIn set).g2 (indicesIn set).g1 q;
-  second = level (indicesIn set).g2;
+  first = first_level (indices_in set).g2 (indices_in set).g1 q;
+  second = level (indices_in set).g2;
   mute = mute;
   sync = sync;
   repaired = repaired;
 }
 
 -- of a repeat: the last set, and both levels are that of the last G2
-abbrev pub repeatedResult : ParameterSet → ℕ → Bool → Bool → FrameResult
-repeatedResult last g2 mute sync = record {
+abbrev pub repeated_result : ParameterSet → ℕ → Bool → Bool → FrameResult
+repeated_result last g2 mute sync = record {
   kind = kind.Repeat;
   set = last;
   first = level g2;
@@ -47,14 +47,14 @@ repeatedResult last g2 mute sync = record {
 -- what either yields and leaves: mute goes by the number of repeats with this frame among the kinds (document 02, T-06)
 unfoldable pub accepted : Record → Bool → ParameterSet → ℕ → Received
 accepted r sync set repaired = record {
-  answer = Result (acceptedResult r.g2 (muted (afterAccepted r set).repeats) sync set repaired);
-  next = afterAccepted r set;
+  answer = Result (accepted_result r.g2 (muted (after_accepted r set).repeats) sync set repaired);
+  next = after_accepted r set;
 }
 
 unfoldable pub repeated : Record → Bool → Received
 repeated r sync = record {
-  answer = Result (repeatedResult r.last r.g2 (muted (afterRepeat r).repeats) sync);
-  next = afterRepeat r;
+  answer = Result (repeated_result r.last r.g2 (muted (after_repeat r).repeats) sync);
+  next = after_repeat r;
 }
 
 -- a frame that is not erased is accepted, an erased one is a repeat
@@ -63,6 +63,6 @@ step r sync (reading.Accepted set repaired) = accepted r sync set repaired
 step r sync reading.Erased = repeated r sync
 
 -- refused: the number, and the record stays
-abbrev pub stepUnless : ℕ → Record → Bool → Reading → Received
-stepUnless zero r sync x = step r sync x
-stepUnless (suc n) r sync x = record { answer = Refused (suc n); next = r }
+abbrev pub step_unless : ℕ → Record → Bool → Reading → Received
+step_unless zero r sync x = step r sync x
+step_unless (suc n) r sync x = record { answer = Refused (suc n); next = r }

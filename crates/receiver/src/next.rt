@@ -1,8 +1,8 @@
 // The record after a frame.
 ghost use Rattle.std.specs.Prelude.{◌≡◌, true, ◌+◌, ◌<◌, ◌≤◌};
-ghost use Rattle.bits.specs.Bits.{bitNum};
-ghost use Rattle.records.specs.Records.{repeatsIn, valid};
-ghost use Rattle.receiver.specs.Next.{pushed, afterAccepted, afterRepeat};
+ghost use Rattle.bits.specs.Bits.{bit_num};
+ghost use Rattle.records.specs.Records.{repeats_in, valid};
+ghost use Rattle.receiver.specs.Next.{pushed, after_accepted, after_repeat};
 
 use records::{FrameKind, Record};
 use sets::{ParameterSet, indices_of};
@@ -20,8 +20,8 @@ fn push(kinds: [FrameKind; 16], kind: FrameKind) -> [FrameKind; 16]
 
 // One less where a repeat goes out.
 fn lowered(repeats: u8, oldest: FrameKind) -> u8
-    requires { bitNum oldest.repeat ≤ repeats }
-    ensures { result + bitNum oldest.repeat ≡ repeats }
+    requires { bit_num oldest.repeat ≤ repeats }
+    ensures { result + bit_num oldest.repeat ≡ repeats }
 {
     if oldest.repeat { repeats - 1 } else { repeats }
 }
@@ -29,15 +29,15 @@ fn lowered(repeats: u8, oldest: FrameKind) -> u8
 // One more where a repeat goes in.
 fn raised(repeats: u8, latest: FrameKind) -> u8
     requires { repeats < 255 }
-    ensures { result ≡ repeats + bitNum latest.repeat }
+    ensures { result ≡ repeats + bit_num latest.repeat }
 {
     if latest.repeat { repeats + 1 } else { repeats }
 }
 
 // How many are repeats after one frame more, by the number before and the kinds that go out and in.
 fn repeats_after(repeats: u8, kinds: [FrameKind; 16], latest: FrameKind) -> u8
-    requires { repeats ≡ repeatsIn kinds }
-    ensures { result ≡ repeatsIn (pushed kinds latest) }
+    requires { repeats ≡ repeats_in kinds }
+    ensures { result ≡ repeats_in (pushed kinds latest) }
 {
     let oldest = kinds[0];
     raised(lowered(repeats, oldest), latest)
@@ -46,7 +46,7 @@ fn repeats_after(repeats: u8, kinds: [FrameKind; 16], latest: FrameKind) -> u8
 // The record after an accepted frame: its set and its G2 become the last ones.
 pub(crate) fn after_accepted(rec: Record, set: ParameterSet) -> Record
     requires { valid rec ≡ true }
-    ensures { result ≡ afterAccepted rec set }
+    ensures { result ≡ after_accepted rec set }
 {
     let kinds = rec.kinds;
     let x = indices_of(set);
@@ -62,7 +62,7 @@ pub(crate) fn after_accepted(rec: Record, set: ParameterSet) -> Record
 // The record after a repeat: last set and G2 stay.
 pub(crate) fn after_repeat(rec: Record) -> Record
     requires { valid rec ≡ true }
-    ensures { result ≡ afterRepeat rec }
+    ensures { result ≡ after_repeat rec }
 {
     let last = rec.last;
     let kinds = rec.kinds;

@@ -1,6 +1,6 @@
 // The calls that take a frame with a confidence for each of its places.
 ghost use Rattle.std.specs.Prelude.{◌≡◌};
-ghost use Rattle.receiver.specs.SoftReceiving.{softReceive};
+ghost use Rattle.receiver.specs.SoftReceiving.{soft_receive};
 
 use crate::receiving::refuse;
 use crate::steps::step;
@@ -12,7 +12,7 @@ use records::{Record, is_valid};
 // A frame in an order and the confidences of its places: the answer, and the record after it. Refused: 2, not seven bytes; 10,
 // a list that is no order; 3, one of the last two bits set; 9, other than 54 confidences; 4, a record that is not valid.
 pub fn receive_soft(rec: Record, frame: &[u8], order: &[u8], confidences: &[u8]) -> Received
-    ensures { result ≡ softReceive order.now rec frame.now confidences.now }
+    ensures { result ≡ soft_receive order.now rec frame.now confidences.now }
 {
     let taken = soft_bits(frame, order, confidences);
     if taken.refusal != 0 {
@@ -34,8 +34,8 @@ pub fn receive_soft_in_place(
     order: &[u8],
     confidences: &[u8],
 ) -> ReceiveAnswer
-    ensures answer { result ≡ (softReceive order.now rec.old frame.now confidences.now).answer }
-    ensures record { rec.new ≡ (softReceive order.now rec.old frame.now confidences.now).next }
+    ensures answer { result ≡ (soft_receive order.now rec.old frame.now confidences.now).answer }
+    ensures record { rec.new ≡ (soft_receive order.now rec.old frame.now confidences.now).next }
 {
     let received = receive_soft(*rec, frame, order, confidences);
     *rec = received.next;

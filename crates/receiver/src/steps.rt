@@ -1,7 +1,7 @@
 // What an accepted frame and a repeat yield.
 ghost use Rattle.std.specs.Prelude.{◌≡◌, true};
 ghost use Rattle.sets.specs.Sets.{in_range};
-ghost use Rattle.reading.specs.Reading.{readingFits};
+ghost use Rattle.reading.specs.Reading.{reading_fits};
 ghost use Rattle.records.specs.Records.{valid};
 ghost use Rattle.receiver.specs.Steps.{kind_of, accepted, repeated, step};
 
@@ -67,7 +67,7 @@ fn repeat(rec: Record, sync: bool) -> Received
 
 // A frame by what its bits are read as: an erased one is a repeat.
 pub(crate) fn step(rec: Record, sync: bool, reading: Reading) -> Received
-    requires { (valid rec ≡ true) × (readingFits reading ≡ true) }
+    requires { (valid rec ≡ true) × (reading_fits reading ≡ true) }
     ensures { result ≡ step rec sync reading }
 {
     match reading {

@@ -1,6 +1,6 @@
 // The fresh record, and the test of a record.
 ghost use Rattle.std.specs.Prelude.{◌≡◌};
-ghost use Rattle.records.specs.Records.{fresh, inRanges, valid};
+ghost use Rattle.records.specs.Records.{fresh, in_ranges, valid};
 
 use crate::repeats::count_repeats;
 use crate::{FrameKind, Record};
@@ -29,7 +29,7 @@ pub fn fresh() -> Record
 
 // Whether the last set and the last G2 are in their ranges.
 pub(crate) fn in_ranges(last: ParameterSet, g2: u8) -> bool
-    ensures { result ≡ inRanges last g2 }
+    ensures { result ≡ in_ranges last g2 }
 {
     is_in_range(last) & (g2 < 32)
 }

@@ -1,6 +1,6 @@
 -- Document 01, "Program hear": its lines.
 use Rattle.std.specs.Prelude.{ℕ, Bool, true, false, List, ◌++◌}
-use Rattle.sets.specs.Sets.{indicesIn}
+use Rattle.sets.specs.Sets.{indices_in}
 use Rattle.sets.specs.declared.Indices.{Indices}
 use Rattle.sets.specs.declared.ParameterSet.{ParameterSet}
 use Rattle.sets.specs.declared.ParameterSet.TheVariants.{Unvoiced, Voiced}
@@ -13,8 +13,8 @@ use Rattle.receiver.specs.declared.ReceiveAnswer.TheVariants.{Result, Refused}
 use Rattle.text.specs.Text.{ascii, decimal, field}
 
 -- the first line: the grains in a dB, and the order of the bits
-abbrev pub firstLine : List ℕ
-firstLine = ascii "grain=186 order=house\n"
+abbrev pub first_line : List ℕ
+first_line = ascii "grain=186 order=house\n"
 
 -- the letter of a kind
 abbrev pub letter : Kind → List ℕ
@@ -23,21 +23,21 @@ letter Kind-as-Voiced = ascii "V"
 letter Repeat = ascii "R"
 
 -- the four LSF indices
-unfoldable pub lsfText : Indices → List ℕ
-lsfText x = field " lsf=" (decimal x.l1) ++ field "," (decimal x.l2) ++ field "," (decimal x.l3) ++ field "," (decimal x.l4)
+unfoldable pub lsf_text : Indices → List ℕ
+lsf_text x = field " lsf=" (decimal x.l1) ++ field "," (decimal x.l2) ++ field "," (decimal x.l3) ++ field "," (decimal x.l4)
 
 -- the pitch of a set, and what else a voiced one has; what an unvoiced one lacks is a dash
-abbrev pub pitchText : ParameterSet → List ℕ
-pitchText (Unvoiced x) = ascii " pitch=-"
-pitchText (Voiced x v) = field " pitch=" (decimal v.pitch)
+abbrev pub pitch_text : ParameterSet → List ℕ
+pitch_text (Unvoiced x) = ascii " pitch=-"
+pitch_text (Voiced x v) = field " pitch=" (decimal v.pitch)
 
-abbrev pub voicingText : ParameterSet → List ℕ
-voicingText (Unvoiced x) = ascii " bp=- fm=- ap=-"
-voicingText (Voiced x v) = field " bp=" (decimal v.bandpass) ++ field " fm=" (decimal v.fourier) ++ field " ap=" (decimal v.aperiodic)
+abbrev pub voicing_text : ParameterSet → List ℕ
+voicing_text (Unvoiced x) = ascii " bp=- fm=- ap=-"
+voicing_text (Voiced x v) = field " bp=" (decimal v.bandpass) ++ field " fm=" (decimal v.fourier) ++ field " ap=" (decimal v.aperiodic)
 
 -- a set
-unfoldable pub setText : ParameterSet → List ℕ
-setText set = pitchText set ++ lsfText (indicesIn set) ++ voicingText set
+unfoldable pub set_text : ParameterSet → List ℕ
+set_text set = pitch_text set ++ lsf_text (indices_in set) ++ voicing_text set
 
 -- a bit
 abbrev pub flag : Bool → List ℕ
@@ -45,10 +45,10 @@ flag true = ascii "1"
 flag false = ascii "0"
 
 -- a result: kind, set and levels, then sync bit, repaired count and mute
-unfoldable pub resultText : FrameResult → List ℕ
-resultText r =
+unfoldable pub result_text : FrameResult → List ℕ
+result_text r =
     field " kind=" (letter r.kind)
-    ++ setText r.set
+    ++ set_text r.set
     ++ field " g1=" (decimal r.first)
     ++ field " g2=" (decimal r.second)
     ++ field " sync=" (flag r.sync)
@@ -56,14 +56,14 @@ resultText r =
     ++ field " mute=" (flag r.mute)
 
 -- what a frame was answered
-abbrev pub answerText : ReceiveAnswer → List ℕ
-answerText (Result r) = resultText r
-answerText (Refused n) = field " refused=" (decimal n)
+abbrev pub answer_text : ReceiveAnswer → List ℕ
+answer_text (Result r) = result_text r
+answer_text (Refused n) = field " refused=" (decimal n)
 
 -- the line of frame k
-unfoldable pub frameLine : ℕ → ReceiveAnswer → List ℕ
-frameLine k answer = field "frame=" (decimal k) ++ answerText answer ++ ascii "\n"
+unfoldable pub frame_line : ℕ → ReceiveAnswer → List ℕ
+frame_line k answer = field "frame=" (decimal k) ++ answer_text answer ++ ascii "\n"
 
 -- the last line: how many frames, how many of them repeats, how many bytes after the last whole frame
-unfoldable pub lastLine : ℕ → ℕ → ℕ → List ℕ
-lastLine frames repeats left = field "frames=" (decimal frames) ++ field " repeats=" (decimal repeats) ++ field " left=" (decimal left) ++ ascii "\n"
+unfoldable pub last_line : ℕ → ℕ → ℕ → List ℕ
+last_line frames repeats left = field "frames=" (decimal frames) ++ field " repeats=" (decimal repeats) ++ field " left=" (decimal left) ++ ascii "\n"

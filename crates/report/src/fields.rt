@@ -2,7 +2,7 @@
 ghost use Rattle.std.specs.Prelude.{◌≡◌, ◌≤◌, [], ◌∷◌, ◌++◌, length, set};
 ghost use Rattle.text.specs.Text.{ascii, decimal, field};
 ghost use Rattle.text.specs.Placing.{PutIfRoom};
-ghost use Rattle.report.specs.Lines.{letter, flag, pitchText, lsfText, setText, resultText};
+ghost use Rattle.report.specs.Lines.{letter, flag, pitch_text, lsf_text, set_text, result_text};
 
 use crate::parts::{put_byte, put_name, put_number};
 use receiver::{FrameResult, Kind};
@@ -63,8 +63,8 @@ fn with_letter(name: Name, letter: u8) -> Name
 
 // The four LSF indices.
 fn write_lsf(x: Indices, line: &mut [u8], at: usize) -> usize
-    ensures put { PutIfRoom line.old at (lsfText x) line.new result }
-    ensures bound { length (lsfText x) ≤ 20 }
+    ensures put { PutIfRoom line.old at (lsf_text x) line.new result }
+    ensures bound { length (lsf_text x) ≤ 20 }
 {
     let comma = COMMA;
     let mut end = put_byte(LSF, 5, x.l1, line, at);
@@ -75,8 +75,8 @@ fn write_lsf(x: Indices, line: &mut [u8], at: usize) -> usize
 
 // The kind's letter, and the pitch: a dash where there is none.
 fn write_pitch(letter: u8, set: ParameterSet, line: &mut [u8], at: usize) -> usize
-    ensures put { PutIfRoom line.old at (field " kind=" (letter ∷ []) ++ pitchText set) line.new result }
-    ensures bound { length (field " kind=" (letter ∷ []) ++ pitchText set) ≤ 17 }
+    ensures put { PutIfRoom line.old at (field " kind=" (letter ∷ []) ++ pitch_text set) line.new result }
+    ensures bound { length (field " kind=" (letter ∷ []) ++ pitch_text set) ≤ 17 }
 {
     let name = with_letter(PITCH, letter);
     match set {
@@ -87,8 +87,8 @@ fn write_pitch(letter: u8, set: ParameterSet, line: &mut [u8], at: usize) -> usi
 
 // The kind's letter and the set: dashes for the bandpass, Fourier and aperiodic codes where there are none.
 fn write_set(letter: u8, set: ParameterSet, line: &mut [u8], at: usize) -> usize
-    ensures put { PutIfRoom line.old at (field " kind=" (letter ∷ []) ++ setText set) line.new result }
-    ensures bound { length (field " kind=" (letter ∷ []) ++ setText set) ≤ 58 }
+    ensures put { PutIfRoom line.old at (field " kind=" (letter ∷ []) ++ set_text set) line.new result }
+    ensures bound { length (field " kind=" (letter ∷ []) ++ set_text set) ≤ 58 }
 {
     let mut end = write_pitch(letter, set, line, at);
     end = write_lsf(sets::indices_of(set), line, end);
@@ -113,8 +113,8 @@ fn write_state(sync: bool, repaired: u8, mute: bool, line: &mut [u8], at: usize)
 
 // A result, to the line end: kind, set and levels, and what follows them.
 pub(crate) fn write_result(res: FrameResult, line: &mut [u8], at: usize) -> usize
-    ensures put { PutIfRoom line.old at (resultText res ++ ascii "\n") line.new result }
-    ensures bound { length (resultText res ++ ascii "\n") ≤ 111 }
+    ensures put { PutIfRoom line.old at (result_text res ++ ascii "\n") line.new result }
+    ensures bound { length (result_text res ++ ascii "\n") ≤ 111 }
 {
     let kind = res.kind;
     let set = res.set;

@@ -1,7 +1,7 @@
 // The line of a frame.
 ghost use Rattle.std.specs.Prelude.{◌≡◌, ◌≤◌, length};
-ghost use Rattle.text.specs.Placing.{placeAnswer, placeWrites, PutIfRoom};
-ghost use Rattle.report.specs.Lines.{frameLine};
+ghost use Rattle.text.specs.Placing.{place_answer, place_writes, PutIfRoom};
+ghost use Rattle.report.specs.Lines.{frame_line};
 
 use crate::fields::write_result;
 use crate::parts::{put_byte, put_name, put_number};
@@ -16,8 +16,8 @@ const END: Name = *b"\n...............";
 
 // The whole line.
 fn write_frame(k: u64, answer: ReceiveAnswer, line: &mut [u8], at: usize) -> usize
-    ensures put { PutIfRoom line.old at (frameLine k answer) line.new result }
-    ensures bound { length (frameLine k answer) ≤ 144 }
+    ensures put { PutIfRoom line.old at (frame_line k answer) line.new result }
+    ensures bound { length (frame_line k answer) ≤ 144 }
 {
     let number = put_number(FRAME, 6, k, line, at);
     match answer {
@@ -31,9 +31,9 @@ fn write_frame(k: u64, answer: ReceiveAnswer, line: &mut [u8], at: usize) -> usi
 
 // The line of frame k, to `at` and on; it has at most 144 bytes. Refused: 1, the buffer ends before the line.
 pub fn frame_line(k: u64, answer: ReceiveAnswer, out: &mut [u8], at: usize) -> LineAnswer
-    ensures answer { result ≡ placeAnswer (frameLine k answer) at (length out.old) }
-    ensures written { out.new ≡ placeWrites (frameLine k answer) at out.old }
-    ensures bound { length (frameLine k answer) ≤ 144 }
+    ensures answer { result ≡ place_answer (frame_line k answer) at (length out.old) }
+    ensures written { out.new ≡ place_writes (frame_line k answer) at out.old }
+    ensures bound { length (frame_line k answer) ≤ 144 }
 {
     if out.len() >= 144 {
         if at <= out.len() - 144 {

@@ -1,7 +1,7 @@
 // The first and the last line of a call. The last is built in a buffer of line ends, so that its own stands after it.
 ghost use Rattle.std.specs.Prelude.{◌≡◌, ◌≤◌, length};
-ghost use Rattle.text.specs.Placing.{placeAnswer, placeWrites};
-ghost use Rattle.report.specs.Lines.{firstLine, lastLine};
+ghost use Rattle.text.specs.Placing.{place_answer, place_writes};
+ghost use Rattle.report.specs.Lines.{first_line, last_line};
 
 use crate::parts::put_number;
 use text::{LineAnswer, Name};
@@ -14,17 +14,17 @@ const LEFT: Name = *b" left=..........";
 
 // The first line, to `at` and on. Refused: 1, the buffer ends before the line.
 pub fn first_line(out: &mut [u8], at: usize) -> LineAnswer
-    ensures answer { result ≡ placeAnswer firstLine at (length out.old) }
-    ensures written { out.new ≡ placeWrites firstLine at out.old }
+    ensures answer { result ≡ place_answer first_line at (length out.old) }
+    ensures written { out.new ≡ place_writes first_line at out.old }
 {
     text::place(b"grain=186 order=house\n", out, at)
 }
 
 // The last line, to `at` and on; it has at most 144 bytes. Refused: 1, the buffer ends before the line.
 pub fn last_line(frames: u64, repeats: u64, left: u64, out: &mut [u8], at: usize) -> LineAnswer
-    ensures answer { result ≡ placeAnswer (lastLine frames repeats left) at (length out.old) }
-    ensures written { out.new ≡ placeWrites (lastLine frames repeats left) at out.old }
-    ensures bound { length (lastLine frames repeats left) ≤ 144 }
+    ensures answer { result ≡ place_answer (last_line frames repeats left) at (length out.old) }
+    ensures written { out.new ≡ place_writes (last_line frames repeats left) at out.old }
+    ensures bound { length (last_line frames repeats left) ≤ 144 }
 {
     let mut line = [b'\n'; 144];
     let mut end = put_number(FRAMES, 7, frames, &mut line, 0);

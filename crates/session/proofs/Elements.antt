@@ -25,11 +25,11 @@ module _ {A : Type 0} (P : A → Type 0) where
   every_append (x ∷ xs) ys h k = (h.0, every_append xs ys h.1 k)
 
   -- of a cut, where it holds of each entry
-  pub every-cut : (g : ℕ → A) (i n : ℕ) → ((j : ℕ) → i ≤ j → j < i + n → P (g j)) → Every P (cut g i n)
-  every-cut g i zero h = tt
-  every-cut g i (suc n) h = (h i (omega arith) (omega arith), every-cut g (suc i) n (λ j a b. h j (omega arith) (omega arith)))
+  pub every_cut : (g : ℕ → A) (i n : ℕ) → ((j : ℕ) → i ≤ j → j < i + n → P (g j)) → Every P (cut g i n)
+  every_cut g i zero h = tt
+  every_cut g i (suc n) h = (h i (omega arith) (omega arith), every_cut g (suc i) n (λ j a b. h j (omega arith) (omega arith)))
 
 -- a weaker claim follows
-pub every-weaker : {A : Type 0} (P Q : A → Type 0) → ((x : A) → P x → Q x) → (l : List A) → Every P l → Every Q l
-every-weaker P Q f [] h = tt
-every-weaker P Q f (x ∷ l) h = (f x h.0, every-weaker P Q f l h.1)
+pub every_weaker : {A : Type 0} (P Q : A → Type 0) → ((x : A) → P x → Q x) → (l : List A) → Every P l → Every Q l
+every_weaker P Q f [] h = tt
+every_weaker P Q f (x ∷ l) h = (f x h.0, every_weaker P Q f l h.1)

@@ -2,23 +2,23 @@
 use mathlib.Core.Path.{refl}
 use Rattle.order.specs.Order.{bit_at}
 use Rattle.text.specs.Text.{digits, decimal}
-use Rattle.session.specs.Format.{countLine, hexText, frameLine, frameLines, header, sessionText}
-use Rattle.session.specs.Writing.{framesOf, writeAnswer}
+use Rattle.session.specs.Format.{count_line, hex_text, frame_line, frame_lines, header, session_text}
+use Rattle.session.specs.Writing.{frames_of, write_answer}
 use Rattle.session.specs.Examples.{Examples}
 
 pub examples : Examples
-unfolding bit_at digits decimal countLine hexText frameLine frameLines header sessionText framesOf writeAnswer
+unfolding bit_at digits decimal count_line hex_text frame_line frame_lines header session_text frames_of write_answer
 examples = record {
   text = refl;
   none = refl;
   enough = refl;
   short = refl;
-  none-enough = refl;
-  none-short = refl;
+  none_enough = refl;
+  none_short = refl;
   padding = refl;
-  padding-short = refl;
+  padding_short = refl;
   part = refl;
-  part-short = refl;
+  part_short = refl;
   most = refl;
   too_many = refl;
 }

@@ -8,17 +8,17 @@ use lib.Dec.{eqb}
 use lib.ListN.{length, get_or}
 use borrow.Author.Tests.{eq-eqb, eqb-true}
 use Rattle.bits.specs.Bits.{ones, value, cut}
-use Rattle.bits.specs.Refusals.{firstRefusal}
-use Rattle.bits.proofs.Cut.{cut-append}
-use Rattle.bits.proofs.Tests.{true-T}
-use Rattle.order.specs.Order.{is_order, defaultOrder, bit_at, frameRefusal}
-use Rattle.order.proofs.Bytes.{padding-is}
-use Rattle.order.proofs.Orders.{default-is-order}
-use Rattle.session.specs.Writing.{isPadded, anyPadded}
+use Rattle.bits.specs.Refusals.{first_refusal}
+use Rattle.bits.proofs.Cut.{cut_append}
+use Rattle.bits.proofs.Tests.{true_T}
+use Rattle.order.specs.Order.{is_order, default_order, bit_at, frame_refusal}
+use Rattle.order.proofs.Bytes.{padding_is}
+use Rattle.order.proofs.Orders.{default_is_order}
+use Rattle.session.specs.Writing.{is_padded, any_padded}
 
 -- a frame has padding bits where its last byte is no multiple of 4
-pub padded-is : (frame : List ℕ) → isPadded frame ≡ not (eqb (get_or frame 6 0 % 4) 0)
-padded-is frame = ap not (go (bit_at frame 54) (bit_at frame 55)) ∙ ap (λ (n : ℕ). not (eqb n 0)) (padding-is frame)
+pub padded_is : (frame : List ℕ) → is_padded frame ≡ not (eqb (get_or frame 6 0 % 4) 0)
+padded_is frame = ap not (go (bit_at frame 54) (bit_at frame 55)) ∙ ap (λ (n : ℕ). not (eqb n 0)) (padding_is frame)
   where
     go : (x y : Bool) → eqb (ones (x ∷ y ∷ [])) 0 ≡ eqb (value (x ∷ y ∷ [])) 0
     go true true = refl
@@ -27,42 +27,42 @@ padded-is frame = ap not (go (bit_at frame 54) (bit_at frame 55)) ∙ ap (λ (n 
     go false false = refl
 
 -- of two lists of frames one has padding bits
-padded-append : (xs ys : List (List ℕ)) → anyPadded (xs ++ ys) ≡ anyPadded xs || anyPadded ys
-padded-append [] ys = refl
-padded-append (f ∷ xs) ys = ap (λ (b : Bool). isPadded f || b) (padded-append xs ys) ∙ sym (or_assoc (isPadded f) (anyPadded xs) (anyPadded ys))
+padded_append : (xs ys : List (List ℕ)) → any_padded (xs ++ ys) ≡ any_padded xs || any_padded ys
+padded_append [] ys = refl
+padded_append (f ∷ xs) ys = ap (λ (b : Bool). is_padded f || b) (padded_append xs ys) ∙ sym (or_assoc (is_padded f) (any_padded xs) (any_padded ys))
 
 -- one frame more
-pub padded-more : (g : ℕ → List ℕ) (k : ℕ) → anyPadded (cut g 0 (k + 1)) ≡ anyPadded (cut g 0 k) || isPadded (g k)
-padded-more g k =
+pub padded_more : (g : ℕ → List ℕ) (k : ℕ) → any_padded (cut g 0 (k + 1)) ≡ any_padded (cut g 0 k) || is_padded (g k)
+padded_more g k =
     let e : 0 + k ≡ k = omega arith in
-    ap anyPadded (cut-append g 0 k 1)
-    ∙ padded-append (cut g 0 k) (g (0 + k) ∷ [])
-    ∙ ap (λ (b : Bool). anyPadded (cut g 0 k) || b) (or-false (isPadded (g (0 + k))))
-    ∙ ap (λ (j : ℕ). anyPadded (cut g 0 k) || isPadded (g j)) e
+    ap any_padded (cut_append g 0 k 1)
+    ∙ padded_append (cut g 0 k) (g (0 + k) ∷ [])
+    ∙ ap (λ (b : Bool). any_padded (cut g 0 k) || b) (or-false (is_padded (g (0 + k))))
+    ∙ ap (λ (j : ℕ). any_padded (cut g 0 k) || is_padded (g j)) e
 
 -- one of n frames has them
-pub padded-found : (g : ℕ → List ℕ) (k n : ℕ) → k < n → isPadded (g k) ≡ true → anyPadded (cut g 0 n) ≡ true
-padded-found g k n h p =
+pub padded_found : (g : ℕ → List ℕ) (k n : ℕ) → k < n → is_padded (g k) ≡ true → any_padded (cut g 0 n) ≡ true
+padded_found g k n h p =
     let e : n ≡ k + 1 + (n - (k + 1)) = omega arith in
-    ap (λ (m : ℕ). anyPadded (cut g 0 m)) e
-    ∙ ap anyPadded (cut-append g 0 (k + 1) (n - (k + 1)))
-    ∙ padded-append (cut g 0 (k + 1)) (cut g (0 + (k + 1)) (n - (k + 1)))
-    ∙ ap (λ (b : Bool). b || anyPadded (cut g (0 + (k + 1)) (n - (k + 1)))) (padded-more g k ∙ ap (λ (b : Bool). anyPadded (cut g 0 k) || b) p ∙ or-true (anyPadded (cut g 0 k)))
+    ap (λ (m : ℕ). any_padded (cut g 0 m)) e
+    ∙ ap any_padded (cut_append g 0 (k + 1) (n - (k + 1)))
+    ∙ padded_append (cut g 0 (k + 1)) (cut g (0 + (k + 1)) (n - (k + 1)))
+    ∙ ap (λ (b : Bool). b || any_padded (cut g (0 + (k + 1)) (n - (k + 1)))) (padded_more g k ∙ ap (λ (b : Bool). any_padded (cut g 0 k) || b) p ∙ or-true (any_padded (cut g 0 k)))
 
 -- what refuses a frame in the default order: its length and its padding bits
-refusal_is : (f : List ℕ) (a p : Bool) → eqb (length f) 7 ≡ a → isPadded f ≡ p → frameRefusal defaultOrder f ≡ firstRefusal ((not a, 2) ∷ (false, 10) ∷ (p, 3) ∷ [])
-refusal_is f a p e q i = firstRefusal ((not (e i), 2) ∷ (not (true-T (is_order defaultOrder) default-is-order i), 10) ∷ (q i, 3) ∷ [])
+refusal_is : (f : List ℕ) (a p : Bool) → eqb (length f) 7 ≡ a → is_padded f ≡ p → frame_refusal default_order f ≡ first_refusal ((not a, 2) ∷ (false, 10) ∷ (p, 3) ∷ [])
+refusal_is f a p e q i = first_refusal ((not (e i), 2) ∷ (not (true_T (is_order default_order) default_is_order i), 10) ∷ (q i, 3) ∷ [])
 
 -- seven bytes without padding bits are not refused
-pub good-is : (f : List ℕ) → length f ≡ 7 → isPadded f ≡ false → frameRefusal defaultOrder f ≡ 0
-good-is f e p = refusal_is f true false (eq-eqb (length f) 7 e) p
+pub good_is : (f : List ℕ) → length f ≡ 7 → is_padded f ≡ false → frame_refusal default_order f ≡ 0
+good_is f e p = refusal_is f true false (eq-eqb (length f) 7 e) p
 
 -- no others are so
-pub good-only : (f : List ℕ) → frameRefusal defaultOrder f ≡ 0 → (length f ≡ 7) × (isPadded f ≡ false)
-good-only f r = go (eqb (length f) 7) (isPadded f) refl refl (sym (refusal_is f (eqb (length f) 7) (isPadded f) refl refl) ∙ r)
+pub good_only : (f : List ℕ) → frame_refusal default_order f ≡ 0 → (length f ≡ 7) × (is_padded f ≡ false)
+good_only f r = go (eqb (length f) 7) (is_padded f) refl refl (sym (refusal_is f (eqb (length f) 7) (is_padded f) refl refl) ∙ r)
   where
-    go : (b p : Bool) → eqb (length f) 7 ≡ b → isPadded f ≡ p → firstRefusal ((not b, 2) ∷ (false, 10) ∷ (p, 3) ∷ []) ≡ 0
-        → (length f ≡ 7) × (isPadded f ≡ false)
+    go : (b p : Bool) → eqb (length f) 7 ≡ b → is_padded f ≡ p → first_refusal ((not b, 2) ∷ (false, 10) ∷ (p, 3) ∷ []) ≡ 0
+        → (length f ≡ 7) × (is_padded f ≡ false)
     go true true e q r = absurd (omega arith)
     go true false e q r = (eqb-true (length f) 7 e, q)
     go false p e q r = absurd (omega arith)

@@ -9,73 +9,73 @@ use lib.Seq.{take-suc}
 use Rattle.bits.specs.Bits.{cut}
 use Rattle.bits.specs.Lists.{Every}
 use Rattle.text.specs.Text.{ascii, decimal}
-use Rattle.text.proofs.Decimals.{decimal-length}
-use Rattle.session.specs.Format.{countLine, hexPair, hexText, frameLine, frameLines, header, sessionText, mostFrames, mostText}
-use Rattle.session.specs.Writing.{frame_at, framesOf, text_of}
-use Rattle.session.proofs.Frames.{frames-length, frames-sized, frames-more}
+use Rattle.text.proofs.Decimals.{decimal_length}
+use Rattle.session.specs.Format.{count_line, hex_pair, hex_text, frame_line, frame_lines, header, session_text, most_frames, most_text}
+use Rattle.session.specs.Writing.{frame_at, frames_of, text_of}
+use Rattle.session.proofs.Frames.{frames_length, frames_sized, frames_more}
 
 -- bytes after bytes
-hex-append : (xs ys : List ℕ) → hexText (xs ++ ys) ≡ hexText xs ++ hexText ys
-unfolding hexText
-hex-append [] ys = refl
-hex-append (x ∷ xs) ys = ap (λ (l : List ℕ). hexPair x ++ l) (hex-append xs ys)
+hex_append : (xs ys : List ℕ) → hex_text (xs ++ ys) ≡ hex_text xs ++ hex_text ys
+unfolding hex_text
+hex_append [] ys = refl
+hex_append (x ∷ xs) ys = ap (λ (l : List ℕ). hex_pair x ++ l) (hex_append xs ys)
 
 -- one byte more
-pub hex-more : (xs : List ℕ) (i : ℕ) → i < length xs → hexText (take (i + 1) xs) ≡ hexText (take i xs) ++ hexPair (get_or xs i 0)
-unfolding hexText
-hex-more xs i h = rw add-one (ap hexText (take-suc xs i 0 h) ∙ hex-append (take i xs) (get_or xs i 0 ∷ []))
+pub hex_more : (xs : List ℕ) (i : ℕ) → i < length xs → hex_text (take (i + 1) xs) ≡ hex_text (take i xs) ++ hex_pair (get_or xs i 0)
+unfolding hex_text
+hex_more xs i h = rw add-one (ap hex_text (take-suc xs i 0 h) ∙ hex_append (take i xs) (get_or xs i 0 ∷ []))
 
 -- a byte has two digits
-pub hex-length : (xs : List ℕ) → length (hexText xs) ≡ 2 * length xs
-unfolding hexText
-hex-length [] = refl
-hex-length (x ∷ xs) = omega (arith, hex-length xs)
+pub hex_length : (xs : List ℕ) → length (hex_text xs) ≡ 2 * length xs
+unfolding hex_text
+hex_length [] = refl
+hex_length (x ∷ xs) = omega (arith, hex_length xs)
 
 -- the line of a frame has 17 bytes
-pub frame-line-length : (f : List ℕ) → length f ≡ 7 → length (frameLine f) ≡ 17
-unfolding frameLine
-frame-line-length f h = omega (arith, length-append (hexText f) (ascii "\n"), hex-length f)
+pub frame_line_length : (f : List ℕ) → length f ≡ 7 → length (frame_line f) ≡ 17
+unfolding frame_line
+frame_line_length f h = omega (arith, length-append (hex_text f) (ascii "\n"), hex_length f)
 
 -- so have those of frames each
-pub frame-lines-length : (fs : List (List ℕ)) → Every (λ f. length f ≡ 7) fs → length (frameLines fs) ≡ 17 * length fs
-unfolding frameLines
-frame-lines-length [] h = refl
-frame-lines-length (f ∷ fs) h =
-    length-append (frameLine f) (frameLines fs) ∙ omega (arith, frame-line-length f h.0, frame-lines-length fs h.1)
+pub frame_lines_length : (fs : List (List ℕ)) → Every (λ f. length f ≡ 7) fs → length (frame_lines fs) ≡ 17 * length fs
+unfolding frame_lines
+frame_lines_length [] h = refl
+frame_lines_length (f ∷ fs) h =
+    length-append (frame_line f) (frame_lines fs) ∙ omega (arith, frame_line_length f h.0, frame_lines_length fs h.1)
 
 -- frames after frames
-pub frame-lines-append : (xs ys : List (List ℕ)) → frameLines (xs ++ ys) ≡ frameLines xs ++ frameLines ys
-unfolding frameLines
-frame-lines-append [] ys = refl
-frame-lines-append (f ∷ xs) ys =
-    ap (λ (l : List ℕ). frameLine f ++ l) (frame-lines-append xs ys) ∙ sym (append_assoc (frameLine f) (frameLines xs) (frameLines ys))
+pub frame_lines_append : (xs ys : List (List ℕ)) → frame_lines (xs ++ ys) ≡ frame_lines xs ++ frame_lines ys
+unfolding frame_lines
+frame_lines_append [] ys = refl
+frame_lines_append (f ∷ xs) ys =
+    ap (λ (l : List ℕ). frame_line f ++ l) (frame_lines_append xs ys) ∙ sym (append_assoc (frame_line f) (frame_lines xs) (frame_lines ys))
 
 -- one frame more
-pub frame-lines-more : (bytes : List ℕ) (k : ℕ) → frameLines (cut (frame_at bytes) 0 (k + 1)) ≡ frameLines (cut (frame_at bytes) 0 k) ++ frameLine (frame_at bytes k)
-unfolding frameLines
-frame-lines-more bytes k =
+pub frame_lines_more : (bytes : List ℕ) (k : ℕ) → frame_lines (cut (frame_at bytes) 0 (k + 1)) ≡ frame_lines (cut (frame_at bytes) 0 k) ++ frame_line (frame_at bytes k)
+unfolding frame_lines
+frame_lines_more bytes k =
     let before = cut (frame_at bytes) 0 k in
     let f = frame_at bytes k in
-    ap frameLines (frames-more bytes k)
-    ∙ frame-lines-append before (f ∷ [])
-    ∙ ap (λ (l : List ℕ). frameLines before ++ l) (append-nil (frameLine f))
+    ap frame_lines (frames_more bytes k)
+    ∙ frame_lines_append before (f ∷ [])
+    ∙ ap (λ (l : List ℕ). frame_lines before ++ l) (append-nil (frame_line f))
 
 -- the three lines have 30 bytes and the digits of the number
-pub header-length : (n : ℕ) → length (header n) ≡ 30 + length (decimal n)
-unfolding header countLine
-header-length n = omega (arith, length-append (decimal n) (ascii "\n"))
+pub header_length : (n : ℕ) → length (header n) ≡ 30 + length (decimal n)
+unfolding header count_line
+header_length n = omega (arith, length-append (decimal n) (ascii "\n"))
 
 -- the text of whole frames
-pub text-length : (bytes : List ℕ) → length (text_of bytes) ≡ length (header (length bytes / 7)) + 17 * (length bytes / 7)
-unfolding sessionText
-text-length bytes =
-    let n = frames-length bytes in
-    length-append (header (length (framesOf bytes))) (frameLines (framesOf bytes))
-    ∙ ap (λ (k : ℕ). length (header (length (framesOf bytes))) + k) (frame-lines-length (framesOf bytes) (frames-sized bytes))
+pub text_length : (bytes : List ℕ) → length (text_of bytes) ≡ length (header (length bytes / 7)) + 17 * (length bytes / 7)
+unfolding session_text
+text_length bytes =
+    let n = frames_length bytes in
+    length-append (header (length (frames_of bytes))) (frame_lines (frames_of bytes))
+    ∙ ap (λ (k : ℕ). length (header (length (frames_of bytes))) + k) (frame_lines_length (frames_of bytes) (frames_sized bytes))
     ∙ ap (λ (k : ℕ). length (header k) + 17 * k) n
 
 -- at most 2,000 frames have at most 34,034 bytes
-pub text-le : (bytes : List ℕ) → length bytes / 7 ≤ mostFrames → length (text_of bytes) ≤ mostText
-text-le bytes h =
+pub text_le : (bytes : List ℕ) → length bytes / 7 ≤ most_frames → length (text_of bytes) ≤ most_text
+text_le bytes h =
     let n : ℕ = length bytes / 7 in
-    omega (arith, text-length bytes, header-length n, decimal-length 3 n (omega arith))
+    omega (arith, text_length bytes, header_length n, decimal_length 3 n (omega arith))

@@ -3,8 +3,8 @@ use Rattle.std.specs.Prelude.{ℕ, ◌≡◌, true, false, List, [], ◌∷◌, 
 use Prim.Native.String.{String}
 use Rattle.text.specs.Text.{ascii}
 use Rattle.text.specs.declared.LineAnswer.TheVariants.{Written, Refused}
-use Rattle.session.specs.Format.{sessionText}
-use Rattle.session.specs.Writing.{isWhole, writeAnswer}
+use Rattle.session.specs.Format.{session_text}
+use Rattle.session.specs.Writing.{is_whole, write_answer}
 
 abbrev pub frame : List ℕ
 frame = 0x80 ∷ 0x56 ∷ 0x0D ∷ 0x40 ∷ 0x15 ∷ 0x00 ∷ 0x10 ∷ []
@@ -22,19 +22,19 @@ file = after "frames=1\nf=80560d40150010\n"
 
 pub record Examples : Type 0 where
   -- the file of the frame, and of none
-  pub text : sessionText (frame ∷ []) ≡ file
-  pub none : sessionText [] ≡ after "frames=0\n"
+  pub text : session_text (frame ∷ []) ≡ file
+  pub none : session_text [] ≡ after "frames=0\n"
   -- 48 and 31 bytes: just enough, and one too few
-  pub enough : writeAnswer frame 48 ≡ Written 48
-  pub short : writeAnswer frame 47 ≡ Refused 1
-  pub none-enough : writeAnswer [] 31 ≡ Written 31
-  pub none-short : writeAnswer [] 30 ≡ Refused 1
+  pub enough : write_answer frame 48 ≡ Written 48
+  pub short : write_answer frame 47 ≡ Refused 1
+  pub none_enough : write_answer [] 31 ≡ Written 31
+  pub none_short : write_answer [] 30 ≡ Refused 1
   -- padding bits, but for an output that is too short
-  pub padding : writeAnswer padded 48 ≡ Refused 3
-  pub padding-short : writeAnswer padded 47 ≡ Refused 1
+  pub padding : write_answer padded 48 ≡ Refused 3
+  pub padding_short : write_answer padded 47 ≡ Refused 1
   -- no whole frame, before an output that is too short
-  pub part : writeAnswer (0 ∷ []) 48 ≡ Refused 2
-  pub part-short : writeAnswer (0 ∷ []) 0 ≡ Refused 2
+  pub part : write_answer (0 ∷ []) 48 ≡ Refused 2
+  pub part_short : write_answer (0 ∷ []) 0 ≡ Refused 2
   -- 2,000 frames, and one more
-  pub most : isWhole (replicate 14000 0) ≡ true
-  pub too_many : isWhole (replicate 14007 0) ≡ false
+  pub most : is_whole (replicate 14000 0) ≡ true
+  pub too_many : is_whole (replicate 14007 0) ≡ false

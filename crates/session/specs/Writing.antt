@@ -1,20 +1,20 @@
 -- Document 02, T-01: what the writer of session files answers and leaves, for any bytes and any output.
 use Rattle.std.specs.Prelude.{ℕ, ◌*◌, ◌/◌, ◌%◌, Bool, false, not, ◌&&◌, ◌||◌, List, [], ◌∷◌, ◌++◌, ltb, leb, eqb, length, take, drop}
 use Rattle.bits.specs.Bits.{ones, cut}
-use Rattle.bits.specs.Lists.{writtenUnless}
-use Rattle.bits.specs.Refusals.{Table, firstRefusal}
+use Rattle.bits.specs.Lists.{written_unless}
+use Rattle.bits.specs.Refusals.{Table, first_refusal}
 use Rattle.order.specs.Order.{padding}
-use Rattle.text.specs.Placing.{answerUnless}
+use Rattle.text.specs.Placing.{answer_unless}
 use Rattle.text.specs.declared.LineAnswer.{LineAnswer}
-use Rattle.session.specs.Format.{sessionText, mostFrames}
+use Rattle.session.specs.Format.{session_text, most_frames}
 
 -- frame k of bytes that are frames one after another, counted from 0
 abbrev pub frame_at : List ℕ → ℕ → List ℕ
 frame_at bytes k = take 7 (drop (7 * k) bytes)
 
 -- all whole frames
-unfoldable pub framesOf : List ℕ → List (List ℕ)
-framesOf bytes = cut (frame_at bytes) 0 (length bytes / 7)
+unfoldable pub frames_of : List ℕ → List (List ℕ)
+frames_of bytes = cut (frame_at bytes) 0 (length bytes / 7)
 
 -- the bytes of frames, one after another
 unfoldable pub joined : List (List ℕ) → List ℕ
@@ -22,34 +22,34 @@ joined [] = []
 joined (f ∷ fs) = f ++ joined fs
 
 -- 0 to 2,000 whole frames
-abbrev pub isWhole : List ℕ → Bool
-isWhole bytes = eqb (length bytes % 7) 0 && leb (length bytes / 7) mostFrames
+abbrev pub is_whole : List ℕ → Bool
+is_whole bytes = eqb (length bytes % 7) 0 && leb (length bytes / 7) most_frames
 
 -- one of a frame's last two bits is set (document 01, "Order of the bits")
-abbrev pub isPadded : List ℕ → Bool
-isPadded frame = not (eqb (ones (padding frame)) 0)
+abbrev pub is_padded : List ℕ → Bool
+is_padded frame = not (eqb (ones (padding frame)) 0)
 
 -- some frame has such a bit
-abbrev pub anyPadded : List (List ℕ) → Bool
-anyPadded [] = false
-anyPadded (f ∷ fs) = isPadded f || anyPadded fs
+abbrev pub any_padded : List (List ℕ) → Bool
+any_padded [] = false
+any_padded (f ∷ fs) = is_padded f || any_padded fs
 
 -- the text that the writer gives for these bytes
 abbrev pub text_of : List ℕ → List ℕ
-text_of bytes = sessionText (framesOf bytes)
+text_of bytes = session_text (frames_of bytes)
 
 -- what refuses them, here 2 before 1: not 0 to 2,000 whole frames; an output shorter than the text; a frame with padding bits
-abbrev pub writeTable : List ℕ → ℕ → Table
-writeTable bytes room = (not (isWhole bytes), 2) ∷ (ltb room (length (text_of bytes)), 1) ∷ (anyPadded (framesOf bytes), 3) ∷ []
+abbrev pub write_table : List ℕ → ℕ → Table
+write_table bytes room = (not (is_whole bytes), 2) ∷ (ltb room (length (text_of bytes)), 1) ∷ (any_padded (frames_of bytes), 3) ∷ []
 
 -- the refusal, 0 is none
-abbrev pub writeRefusal : List ℕ → ℕ → ℕ
-writeRefusal bytes room = firstRefusal (writeTable bytes room)
+abbrev pub write_refusal : List ℕ → ℕ → ℕ
+write_refusal bytes room = first_refusal (write_table bytes room)
 
 -- the answer: where the text ends, or the refusal
-unfoldable pub writeAnswer : List ℕ → ℕ → LineAnswer
-writeAnswer bytes room = answerUnless (writeRefusal bytes room) (length (text_of bytes))
+unfoldable pub write_answer : List ℕ → ℕ → LineAnswer
+write_answer bytes room = answer_unless (write_refusal bytes room) (length (text_of bytes))
 
 -- the output afterwards: the text in front and all past it kept; after a refusal all kept
-unfoldable pub writeWrites : List ℕ → List ℕ → List ℕ
-writeWrites bytes out = writtenUnless (writeRefusal bytes (length out)) (length (text_of bytes)) (text_of bytes) out
+unfoldable pub write_writes : List ℕ → List ℕ → List ℕ
+write_writes bytes out = written_unless (write_refusal bytes (length out)) (length (text_of bytes)) (text_of bytes) out

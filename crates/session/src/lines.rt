@@ -1,15 +1,15 @@
 // The lines of frames.
 ghost use Rattle.std.specs.Prelude.{◌≡◌, ◌+◌, ◌*◌, ◌/◌, ◌≤◌, length};
 ghost use Rattle.text.specs.Placing.{Put};
-ghost use Rattle.session.specs.Format.{hexText, frameLine, frameLines};
-ghost use Rattle.session.specs.Writing.{framesOf, anyPadded};
+ghost use Rattle.session.specs.Format.{hex_text, frame_line, frame_lines};
+ghost use Rattle.session.specs.Writing.{frames_of, any_padded};
 
 use crate::hex::write_pair;
 
 // The seven bytes of a frame in hexadecimal; where they end.
 fn write_digits(frame: &[u8], out: &mut [u8], at: usize) -> usize
     requires { (length frame.now ≡ 7) × (at + 14 ≤ length out.old) }
-    ensures { Put out.old at (hexText frame.now) out.new result }
+    ensures { Put out.old at (hex_text frame.now) out.new result }
 {
     let mut end = at;
     for i in 0..7 {
@@ -21,7 +21,7 @@ fn write_digits(frame: &[u8], out: &mut [u8], at: usize) -> usize
 // The line of a frame.
 fn write_line(frame: &[u8], out: &mut [u8], at: usize) -> usize
     requires { (length frame.now ≡ 7) × (at + 17 ≤ length out.old) }
-    ensures { Put out.old at (frameLine frame.now) out.new result }
+    ensures { Put out.old at (frame_line frame.now) out.new result }
 {
     out[at] = b'f';
     out[at + 1] = b'=';
@@ -33,7 +33,7 @@ fn write_line(frame: &[u8], out: &mut [u8], at: usize) -> usize
 // The lines of all frames.
 pub(crate) fn write_lines(frames: &[u8], out: &mut [u8], at: usize) -> usize
     requires { at + 17 * (length frames.now / 7) ≤ length out.old }
-    ensures { Put out.old at (frameLines (framesOf frames.now)) out.new result }
+    ensures { Put out.old at (frame_lines (frames_of frames.now)) out.new result }
 {
     let mut end = at;
     for k in 0..frames.len() / 7 {
@@ -44,7 +44,7 @@ pub(crate) fn write_lines(frames: &[u8], out: &mut [u8], at: usize) -> usize
 
 // Whether one of a frame's last two bits is set in any of the frames.
 pub(crate) fn has_padding(frames: &[u8]) -> bool
-    ensures { result ≡ anyPadded (framesOf frames.now) }
+    ensures { result ≡ any_padded (frames_of frames.now) }
 {
     for k in 0..frames.len() / 7 {
         if frames[7 * k + 6] % 4 != 0 {

@@ -1,7 +1,7 @@
 // The writer of session files.
 ghost use Rattle.std.specs.Prelude.{◌≡◌, ◌+◌, ◌*◌, ◌/◌, ◌≤◌, length};
 ghost use Rattle.text.specs.Placing.{Put};
-ghost use Rattle.session.specs.Writing.{isWhole, text_of, writeAnswer, writeWrites};
+ghost use Rattle.session.specs.Writing.{is_whole, text_of, write_answer, write_writes};
 
 use crate::header::{header_size, write_header};
 use crate::lines::{has_padding, write_lines};
@@ -9,7 +9,7 @@ use text::LineAnswer;
 
 // 0 to 2,000 whole frames.
 fn is_whole(frames: &[u8]) -> bool
-    ensures { result ≡ isWhole frames.now }
+    ensures { result ≡ is_whole frames.now }
 {
     (frames.len() % 7 == 0) & (frames.len() / 7 <= 2000)
 }
@@ -26,8 +26,8 @@ fn write_text(frames: &[u8], out: &mut [u8]) -> usize
 // The text of frames, seven bytes each, to the front of `out`. Refused, in this order: 2, not 0 to 2,000 whole frames;
 // 1, an output shorter than the text; 3, a frame with one of its last two bits set.
 pub fn write(frames: &[u8], out: &mut [u8]) -> LineAnswer
-    ensures answer { result ≡ writeAnswer frames.now (length out.old) }
-    ensures written { out.new ≡ writeWrites frames.now out.old }
+    ensures answer { result ≡ write_answer frames.now (length out.old) }
+    ensures written { out.new ≡ write_writes frames.now out.old }
 {
     if !is_whole(frames) {
         return LineAnswer::Refused(2);

@@ -16,11 +16,11 @@ number_of (Refused number line) = number
 number_of Frame = 0
 number_of End = 0
 
-abbrev placeOf : Answer → ℕ
-placeOf (Refused number line) = line
-placeOf Frame = 0
-placeOf End = 0
+abbrev place_of : Answer → ℕ
+place_of (Refused number line) = line
+place_of Frame = 0
+place_of End = 0
 
 -- a refusal has one number and one line
-pub refused-only : (a b number line : ℕ) → Refused a b ≡ Refused number line → (number ≡ a) × (line ≡ b)
-refused-only a b number line e = (sym (ap number_of e), sym (ap placeOf e))
+pub refused_only : (a b number line : ℕ) → Refused a b ≡ Refused number line → (number ≡ a) × (line ≡ b)
+refused_only a b number line e = (sym (ap number_of e), sym (ap place_of e))

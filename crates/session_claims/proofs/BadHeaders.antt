@@ -6,39 +6,39 @@ use Prim.Native.Nat.{ℕ, ◌≤◌}
 use native.Mathlib.Omega.{arith}
 use lib.ListN.{drop}
 use lib.Seq.{drop-drop}
-use Rattle.session.specs.Format.{fileLine, orderLine, countLine, mostFrames}
+use Rattle.session.specs.Format.{file_line, order_line, count_line, most_frames}
 use Rattle.text.specs.Text.{ascii}
-use Rattle.session_lines.specs.Lines.{line_of, sameBytes, isCountLine}
+use Rattle.session_lines.specs.Lines.{line_of, same_bytes, is_count_line}
 use Rattle.session_lines.specs.Scans.{begins}
-use Rattle.session_lines.specs.Headers.{thirdLine, badHeaderLine}
+use Rattle.session_lines.specs.Headers.{third_line, bad_header_line}
 use Rattle.session_claims.specs.Claims.{FirstBad}
-use Rattle.session_lines.proofs.Scans.{begins-is}
-use Rattle.session_lines.proofs.WholeLines.{Plain, ended, line-begins, same_back}
-use Rattle.session_lines.proofs.CountLines.{count-good}
-use Rattle.session_lines.proofs.HeaderLines.{first_of, bad-is}
+use Rattle.session_lines.proofs.Scans.{begins_is}
+use Rattle.session_lines.proofs.WholeLines.{Plain, ended, line_begins, same_back}
+use Rattle.session_lines.proofs.CountLines.{count_good}
+use Rattle.session_lines.proofs.HeaderLines.{first_of, bad_is}
 
 -- a text that does not begin with a line has another first line
-other-line : (body t : List ℕ) → Plain body → begins (ended body) t ≡ false → line_of t ≡ ended body → ⊥
-other-line body t p e q =
-    false≢true (sym e ∙ sym (line-begins body t p) ∙ ap (λ (l : List ℕ). sameBytes l (ended body)) q ∙ same_back (ended body))
+other_line : (body t : List ℕ) → Plain body → begins (ended body) t ≡ false → line_of t ≡ ended body → ⊥
+other_line body t p e q =
+    false≢true (sym e ∙ sym (line_begins body t p) ∙ ap (λ (l : List ℕ). same_bytes l (ended body)) q ∙ same_back (ended body))
 
 -- a line that is no third line is that for no number up to 2,000
-other-count : (l : List ℕ) → isCountLine l ≡ false → (n : ℕ) → n ≤ mostFrames → l ≡ countLine n → ⊥
-other-count l e n h q = false≢true (sym e ∙ ap isCountLine q ∙ count-good n h)
+other_count : (l : List ℕ) → is_count_line l ≡ false → (n : ℕ) → n ≤ most_frames → l ≡ count_line n → ⊥
+other_count l e n h q = false≢true (sym e ∙ ap is_count_line q ∙ count_good n h)
 
 -- the first bad line of the three
-pub bad-header : (text : List ℕ) (number line : ℕ) → number ≡ 8 → badHeaderLine text ≡ line → (line ≡ 0 → ⊥) → FirstBad text [] number line
-bad-header text number line eight e some =
-    go (begins fileLine text) (begins orderLine (drop 10 text)) (isCountLine (thirdLine text)) refl refl refl (sym (bad-is text) ∙ e)
+pub bad_header : (text : List ℕ) (number line : ℕ) → number ≡ 8 → bad_header_line text ≡ line → (line ≡ 0 → ⊥) → FirstBad text [] number line
+bad_header text number line eight e some =
+    go (begins file_line text) (begins order_line (drop 10 text)) (is_count_line (third_line text)) refl refl refl (sym (bad_is text) ∙ e)
   where
-    go : (a b c : Bool) → begins fileLine text ≡ a → begins orderLine (drop 10 text) ≡ b → isCountLine (thirdLine text) ≡ c → first_of a b c ≡ line
+    go : (a b c : Bool) → begins file_line text ≡ a → begins order_line (drop 10 text) ≡ b → is_count_line (third_line text) ≡ c → first_of a b c ≡ line
         → FirstBad text [] number line
-    go false b c f o n z = FirstBad.file refl eight (sym z) (other-line (ascii "file=melp") text (omega arith) f)
+    go false b c f o n z = FirstBad.file refl eight (sym z) (other_line (ascii "file=melp") text (omega arith) f)
     go true false c f o n z =
-        FirstBad.order (drop 10 text) refl eight (sym z) (begins-is fileLine text f) (other-line (ascii "order=house") (drop 10 text) (omega arith) o)
+        FirstBad.order (drop 10 text) refl eight (sym z) (begins_is file_line text f) (other_line (ascii "order=house") (drop 10 text) (omega arith) o)
     go true true false f o n z =
-        let order : drop 10 text ≡ orderLine ++ drop 22 text =
-        begins-is orderLine (drop 10 text) o ∙ ap (λ (l : List ℕ). orderLine ++ l) (drop-drop 12 10 text) in
-        FirstBad.count (drop 22 text) refl eight (sym z) (begins-is fileLine text f ∙ ap (λ (l : List ℕ). fileLine ++ l) order)
-        (other-count (thirdLine text) n)
+        let order : drop 10 text ≡ order_line ++ drop 22 text =
+        begins_is order_line (drop 10 text) o ∙ ap (λ (l : List ℕ). order_line ++ l) (drop-drop 12 10 text) in
+        FirstBad.count (drop 22 text) refl eight (sym z) (begins_is file_line text f ∙ ap (λ (l : List ℕ). file_line ++ l) order)
+        (other_count (third_line text) n)
     go true true true f o n z = absurd (some (sym z))

@@ -4,55 +4,55 @@ use mathlib.Core.List.{List, []}
 use Prim.Native.Nat.{ℕ, zero, suc, ◌+◌}
 use native.Mathlib.Omega.{arith}
 use lib.ListN.{drop}
-use Rattle.session.specs.Format.{frameLines, mostText}
-use Rattle.session_lines.specs.Headers.{badHeaderLine, framesIn, firstPlace}
-use Rattle.session_reader.specs.Steps.{stepAt}
+use Rattle.session.specs.Format.{frame_lines, most_text}
+use Rattle.session_lines.specs.Headers.{bad_header_line, frames_in, first_place}
+use Rattle.session_reader.specs.Steps.{step_at}
 use Rattle.session_claims.specs.Reading.{reading}
 use Rattle.session_claims.specs.Claims.{FirstBad, Claims}
 use Rattle.session_reader.specs.declared.Answer.TheVariants.{Frame, Refused}
 use Rattle.session_reader.specs.declared.Step.{Step}
-use Rattle.session_claims.proofs.Answers.{kind, refused-only}
-use Rattle.session_lines.proofs.Headers.{good-header}
-use Rattle.session_claims.proofs.Rests.{rest-ends}
-use Rattle.session_claims.proofs.Readings.{reading-bad, reading-good}
-use Rattle.session_claims.proofs.BadHeaders.{bad-header}
-use Rattle.session_claims.proofs.BadLines.{rest-refused}
+use Rattle.session_claims.proofs.Answers.{kind, refused_only}
+use Rattle.session_lines.proofs.Headers.{good_header}
+use Rattle.session_claims.proofs.Rests.{rest_ends}
+use Rattle.session_claims.proofs.Readings.{reading_bad, reading_good}
+use Rattle.session_claims.proofs.BadHeaders.{bad_header}
+use Rattle.session_claims.proofs.BadLines.{rest_refused}
 use Rattle.session_claims.proofs.Repeats.{step_stays}
-use Rattle.session_claims.proofs.LongTexts.{reading-take}
-use Rattle.session_claims.proofs.Roundtrips.{text-back, text-only}
-use Rattle.session_claims.proofs.Writers.{written_back, rewritten-back}
+use Rattle.session_claims.proofs.LongTexts.{reading_take}
+use Rattle.session_claims.proofs.Roundtrips.{text_back, text_only}
+use Rattle.session_claims.proofs.Writers.{written_back, rewritten_back}
 
 module _ (text : List ℕ) where
   -- a refusal is what the first bad line asks for
   refused : (number line : ℕ) → (reading text).answer ≡ Refused number line → FirstBad text (reading text).frames number line
-  unfolding frameLines
-  refused number line = go (badHeaderLine text) refl
+  unfolding frame_lines
+  refused number line = go (bad_header_line text) refl
     where
-      go : (b : ℕ) → badHeaderLine text ≡ b → (reading text).answer ≡ Refused number line → FirstBad text (reading text).frames number line
+      go : (b : ℕ) → bad_header_line text ≡ b → (reading text).answer ≡ Refused number line → FirstBad text (reading text).frames number line
       go (suc b) e =
-          rw (reading-bad text b e) λ q. let p = refused-only 8 (suc b) number line q in
-          bad-header text number line p.0 (e ∙ sym p.1) (λ z. omega arith)
+          rw (reading_bad text b e) λ q. let p = refused_only 8 (suc b) number line q in
+          bad_header text number line p.0 (e ∙ sym p.1) (λ z. omega arith)
       go zero e =
-          let h = good-header text e in
-          let n = framesIn text in
-          rw (reading-good text e) (rest-refused text n number line h.1 n (drop (firstPlace text) text) 0 [] refl (omega arith) tt h.0)
+          let h = good_header text e in
+          let n = frames_in text in
+          rw (reading_good text e) (rest_refused text n number line h.1 n (drop (first_place text) text) 0 [] refl (omega arith) tt h.0)
 
   -- no reading ends with a frame
   ends : (reading text).answer ≡ Frame → ⊥
-  ends = go (badHeaderLine text) refl
+  ends = go (bad_header_line text) refl
     where
-      go : (b : ℕ) → badHeaderLine text ≡ b → (reading text).answer ≡ Frame → ⊥
-      go (suc b) e = rw (reading-bad text b e) (λ q. omega (arith, ap kind q))
-      go zero e = rw (reading-good text e) (rest-ends (framesIn text) (drop (firstPlace text) text) 0)
+      go : (b : ℕ) → bad_header_line text ≡ b → (reading text).answer ≡ Frame → ⊥
+      go (suc b) e = rw (reading_bad text b e) (λ q. omega (arith, ap kind q))
+      go zero e = rw (reading_good text e) (rest_ends (frames_in text) (drop (first_place text) text) 0)
 
 pub claims : Claims
 claims = record {
-  back = text-back;
-  only = text-only;
+  back = text_back;
+  only = text_only;
   refused = refused;
   ends = ends;
-  again = λ text at h. ap (λ (s : Step). stepAt text s.at) (step_stays text at h);
+  again = λ text at h. ap (λ (s : Step). step_at text s.at) (step_stays text at h);
   written = written_back;
-  rewritten = rewritten-back;
-  enough = λ text. reading-take text (mostText + 1) (omega arith);
+  rewritten = rewritten_back;
+  enough = λ text. reading_take text (most_text + 1) (omega arith);
 }

@@ -8,29 +8,29 @@ use native.Mathlib.Omega.{arith}
 use lib.Dec.{eqb}
 use lib.ListN.{take, drop}
 use lib.Seq.{take-nil, take-take}
-use Rattle.session_lines.specs.Lines.{line_of, sameBytes, isFrameLine, frame_of}
-use Rattle.session_claims.proofs.Rests.{restReading}
+use Rattle.session_lines.specs.Lines.{line_of, same_bytes, is_frame_line, frame_of}
+use Rattle.session_claims.proofs.Rests.{rest_reading}
 
 -- a part of a front is a front of the part
-pub drop-take : (a m : ℕ) (l : List ℕ) → drop a (take m l) ≡ take (m - a) (drop a l)
-drop-take zero m l = rw sub-zero refl
-drop-take (suc a) zero l = rw zero-sub refl
-drop-take (suc a) (suc m) [] = rw take-nil refl
-drop-take (suc a) (suc m) (x ∷ l) = rw suc-sub-suc (drop-take a m l)
+pub drop_take : (a m : ℕ) (l : List ℕ) → drop a (take m l) ≡ take (m - a) (drop a l)
+drop_take zero m l = rw sub-zero refl
+drop_take (suc a) zero l = rw zero-sub refl
+drop_take (suc a) (suc m) [] = rw take-nil refl
+drop_take (suc a) (suc m) (x ∷ l) = rw suc-sub-suc (drop_take a m l)
 
 -- the first line of a front is the front of the first line
-line-take : (m : ℕ) (t : List ℕ) → line_of (take m t) ≡ take m (line_of t)
+line_take : (m : ℕ) (t : List ℕ) → line_of (take m t) ≡ take m (line_of t)
 unfolding line_of
-line-take zero t = refl
-line-take (suc m) [] = refl
-line-take (suc m) (c ∷ cs) = go (eqb c 10) (line-take m cs)
+line_take zero t = refl
+line_take (suc m) [] = refl
+line_take (suc m) (c ∷ cs) = go (eqb c 10) (line_take m cs)
   where
     go : (b : Bool) → line_of (take m cs) ≡ take m (line_of cs) → cond b (c ∷ []) (c ∷ line_of (take m cs)) ≡ take (suc m) (cond b (c ∷ []) (c ∷ line_of cs))
     go true h = ap (λ (l : List ℕ). c ∷ l) (sym (take-nil m))
     go false h = ap (λ (l : List ℕ). c ∷ l) h
 
 -- two bytes tell whether a text is one LF
-end_take : (m : ℕ) (t : List ℕ) → 2 ≤ m → sameBytes (take m t) (10 ∷ []) ≡ sameBytes t (10 ∷ [])
+end_take : (m : ℕ) (t : List ℕ) → 2 ≤ m → same_bytes (take m t) (10 ∷ []) ≡ same_bytes t (10 ∷ [])
 end_take zero t h = absurd (omega arith)
 end_take (suc zero) t h = absurd (omega arith)
 end_take (suc (suc m)) [] h = refl
@@ -39,33 +39,33 @@ end_take (suc (suc m)) (a ∷ b ∷ t) h = refl
 
 module _ (m : ℕ) (l : List ℕ) (h : 18 ≤ m) where
   -- 18 bytes tell whether a line is a frame's
-  frame-line-take : isFrameLine (take m l) ≡ isFrameLine l
-  unfolding isFrameLine
-  frame-line-take =
+  frame_line_take : is_frame_line (take m l) ≡ is_frame_line l
+  unfolding is_frame_line
+  frame_line_take =
       rw (
         take-take 2 m l (omega arith),
-        drop-take 2 m l,
+        drop_take 2 m l,
         take-take 14 (m - 2) (drop 2 l) (omega arith),
-        drop-take 16 m l,
+        drop_take 16 m l,
         end_take (m - 16) (drop 16 l) (omega arith),
       ) refl
 
   -- and have the frame
-  frame-take : frame_of (take m l) ≡ frame_of l
+  frame_take : frame_of (take m l) ≡ frame_of l
   unfolding frame_of
-  frame-take = rw (drop-take 2 m l, take-take 14 (m - 2) (drop 2 l) (omega arith)) refl
+  frame_take = rw (drop_take 2 m l, take-take 14 (m - 2) (drop 2 l) (omega arith)) refl
 
 -- the lines of j frames and one byte more tell what is read
-pub rest-take : (j m : ℕ) (t : List ℕ) (k : ℕ) → 17 * j + 1 ≤ m → restReading j (take m t) k ≡ restReading j t k
-unfolding restReading
-rest-take zero zero t k h = absurd (omega arith)
-rest-take zero (suc m) [] k h = refl
-rest-take zero (suc m) (c ∷ cs) k h = refl
-rest-take (suc j) m t k h =
+pub rest_take : (j m : ℕ) (t : List ℕ) (k : ℕ) → 17 * j + 1 ≤ m → rest_reading j (take m t) k ≡ rest_reading j t k
+unfolding rest_reading
+rest_take zero zero t k h = absurd (omega arith)
+rest_take zero (suc m) [] k h = refl
+rest_take zero (suc m) (c ∷ cs) k h = refl
+rest_take (suc j) m t k h =
     rw (
-      line-take m t,
-      frame-line-take m (line_of t) (omega arith),
-      frame-take m (line_of t) (omega arith),
-      drop-take 17 m t,
-      rest-take j (m - 17) (drop 17 t) (suc k) (omega arith),
+      line_take m t,
+      frame_line_take m (line_of t) (omega arith),
+      frame_take m (line_of t) (omega arith),
+      drop_take 17 m t,
+      rest_take j (m - 17) (drop 17 t) (suc k) (omega arith),
     ) refl

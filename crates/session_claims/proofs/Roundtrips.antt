@@ -6,43 +6,43 @@ use native.Mathlib.Omega.{arith}
 use lib.ListN.{length, drop}
 use lib.Seq.{drop-append_seam}
 use Rattle.bits.specs.Lists.{Every}
-use Rattle.session.specs.Format.{header, frameLines, sessionText, mostFrames}
-use Rattle.session_lines.specs.Headers.{badHeaderLine, framesIn, firstPlace}
+use Rattle.session.specs.Format.{header, frame_lines, session_text, most_frames}
+use Rattle.session_lines.specs.Headers.{bad_header_line, frames_in, first_place}
 use Rattle.session_claims.specs.Reading.{Reading, reading}
 use Rattle.session_claims.specs.Claims.{Good}
 use Rattle.session_reader.specs.declared.Answer.TheVariants.{End}
 use Rattle.session_claims.proofs.Answers.{kind}
-use Rattle.session_lines.proofs.Headers.{good-header, header-good, header-frames, header-place}
-use Rattle.session_claims.proofs.Rests.{restReading, rest_back, rest-only}
-use Rattle.session_claims.proofs.Readings.{reading-bad, reading-good}
+use Rattle.session_lines.proofs.Headers.{good_header, header_good, header_frames, header_place}
+use Rattle.session_claims.proofs.Rests.{rest_reading, rest_back, rest_only}
+use Rattle.session_claims.proofs.Readings.{reading_bad, reading_good}
 
 -- the text of good frames is read back as these frames, and ends
-pub text-back : (fs : List (List ℕ)) → length fs ≤ mostFrames → Every Good fs → reading (sessionText fs) ≡ record { frames = fs; answer = End }
-unfolding sessionText
-text-back fs h g =
+pub text_back : (fs : List (List ℕ)) → length fs ≤ most_frames → Every Good fs → reading (session_text fs) ≡ record { frames = fs; answer = End }
+unfolding session_text
+text_back fs h g =
     let n = length fs in
-    let rest = frameLines fs in
+    let rest = frame_lines fs in
     let text = header n ++ rest in
-    let frames = header-frames n rest h in
-    let place = header-place n rest h in
-    reading-good text (header-good n rest h)
-    ∙ (λ i. restReading (frames i) (drop (place i) text) 0)
-    ∙ ap (λ (t : List ℕ). restReading n t 0) (drop-append_seam (header n) rest)
+    let frames = header_frames n rest h in
+    let place = header_place n rest h in
+    reading_good text (header_good n rest h)
+    ∙ (λ i. rest_reading (frames i) (drop (place i) text) 0)
+    ∙ ap (λ (t : List ℕ). rest_reading n t 0) (drop-append_seam (header n) rest)
     ∙ rest_back fs 0 g
 
 -- what a reading to the end tells
 abbrev Whole : List ℕ → Reading → Type 0
-Whole text r = r.answer ≡ End → (length r.frames ≤ mostFrames) × Every Good r.frames × (sessionText r.frames ≡ text)
+Whole text r = r.answer ≡ End → (length r.frames ≤ most_frames) × Every Good r.frames × (session_text r.frames ≡ text)
 
 -- a text read to its end is that of the good frames handed on
-pub text-only : (text : List ℕ) → Whole text (reading text)
-unfolding sessionText
-text-only text = go (badHeaderLine text) refl
+pub text_only : (text : List ℕ) → Whole text (reading text)
+unfolding session_text
+text_only text = go (bad_header_line text) refl
   where
-    go : (b : ℕ) → badHeaderLine text ≡ b → Whole text (reading text)
-    go (suc b) e = rw (reading-bad text b e) (λ q. absurd (omega (arith, ap kind q)))
+    go : (b : ℕ) → bad_header_line text ≡ b → Whole text (reading text)
+    go (suc b) e = rw (reading_bad text b e) (λ q. absurd (omega (arith, ap kind q)))
     go zero e =
-        let n = framesIn text in
-        let rest = drop (firstPlace text) text in
-        let h = good-header text e in
-        rw (reading-good text e) (λ q. let p = rest-only n rest 0 q in (omega arith, p.1, (λ i. header (p.0 i) ++ p.2 i) ∙ sym h.0))
+        let n = frames_in text in
+        let rest = drop (first_place text) text in
+        let h = good_header text e in
+        rw (reading_good text e) (λ q. let p = rest_only n rest 0 q in (omega arith, p.1, (λ i. header (p.0 i) ++ p.2 i) ∙ sym h.0))

@@ -1,51 +1,51 @@
 -- Document 02, T-01: what is claimed of session files. Proved in the law file of this name.
 use Rattle.std.specs.Prelude.{ℕ, ◌+◌, ◌≤◌, ◌<◌, ◌≡◌, true, List, [], ◌++◌, length, take, drop}
 use Rattle.bits.specs.Lists.{Every}
-use Rattle.order.specs.Order.{defaultOrder, frameRefusal}
-use Rattle.session.specs.Format.{fileLine, orderLine, countLine, header, frameLine, frameLines, sessionText, mostFrames, mostText}
-use Rattle.session.specs.Writing.{framesOf, joined, isPadded, text_of, writeRefusal, writeAnswer, writeWrites}
+use Rattle.order.specs.Order.{default_order, frame_refusal}
+use Rattle.session.specs.Format.{file_line, order_line, count_line, header, frame_line, frame_lines, session_text, most_frames, most_text}
+use Rattle.session.specs.Writing.{frames_of, joined, is_padded, text_of, write_refusal, write_answer, write_writes}
 use Rattle.text.specs.declared.LineAnswer.TheVariants.{Written}
 use Rattle.session_lines.specs.Lines.{line_of, Seven}
-use Rattle.session_reader.specs.Steps.{stepAt}
+use Rattle.session_reader.specs.Steps.{step_at}
 use Rattle.session_claims.specs.Reading.{reading}
 use Rattle.session_reader.specs.declared.Answer.TheVariants.{Frame, End, Refused}
 
 -- a frame in the default order without padding bits
 abbrev pub Good : List ℕ → Type 0
-Good frame = (frameRefusal defaultOrder frame ≡ 0) × Every (λ b. b < 256) frame
+Good frame = (frame_refusal default_order frame ≡ 0) × Every (λ b. b < 256) frame
 
 -- the first bad line of a text, after the lines of good frames fs: its number counts from 1, and `number` is the refusal that it asks for
 pub data FirstBad (text : List ℕ) (fs : List (List ℕ)) (number line : ℕ) : Type 0 where
   -- the first three lines
-  file : fs ≡ [] → number ≡ 8 → line ≡ 1 → (line_of text ≡ fileLine → ⊥) → FirstBad text fs number line
-  order : (rest : List ℕ) → fs ≡ [] → number ≡ 8 → line ≡ 2 → text ≡ fileLine ++ rest → (line_of rest ≡ orderLine → ⊥) → FirstBad text fs number line
-  count : (rest : List ℕ) → fs ≡ [] → number ≡ 8 → line ≡ 3 → text ≡ fileLine ++ (orderLine ++ rest)
-      → ((n : ℕ) → n ≤ mostFrames → line_of rest ≡ countLine n → ⊥) → FirstBad text fs number line
+  file : fs ≡ [] → number ≡ 8 → line ≡ 1 → (line_of text ≡ file_line → ⊥) → FirstBad text fs number line
+  order : (rest : List ℕ) → fs ≡ [] → number ≡ 8 → line ≡ 2 → text ≡ file_line ++ rest → (line_of rest ≡ order_line → ⊥) → FirstBad text fs number line
+  count : (rest : List ℕ) → fs ≡ [] → number ≡ 8 → line ≡ 3 → text ≡ file_line ++ (order_line ++ rest)
+      → ((n : ℕ) → n ≤ most_frames → line_of rest ≡ count_line n → ⊥) → FirstBad text fs number line
   -- fewer good frames than the third line says: the next line is that of no seven bytes, or of seven with padding bits
-  formless : (n : ℕ) (rest : List ℕ) → n ≤ mostFrames → length fs < n → Every Good fs → number ≡ 8 → line ≡ length fs + 4
-      → text ≡ header n ++ (frameLines fs ++ rest) → ((f : List ℕ) → Seven f → line_of rest ≡ frameLine f → ⊥) → FirstBad text fs number line
-  padded : (n : ℕ) (rest f : List ℕ) → n ≤ mostFrames → length fs < n → Every Good fs → number ≡ 3 → line ≡ length fs + 4
-      → text ≡ header n ++ (frameLines fs ++ rest) → Seven f → isPadded f ≡ true → line_of rest ≡ frameLine f → FirstBad text fs number line
+  formless : (n : ℕ) (rest : List ℕ) → n ≤ most_frames → length fs < n → Every Good fs → number ≡ 8 → line ≡ length fs + 4
+      → text ≡ header n ++ (frame_lines fs ++ rest) → ((f : List ℕ) → Seven f → line_of rest ≡ frame_line f → ⊥) → FirstBad text fs number line
+  padded : (n : ℕ) (rest f : List ℕ) → n ≤ most_frames → length fs < n → Every Good fs → number ≡ 3 → line ≡ length fs + 4
+      → text ≡ header n ++ (frame_lines fs ++ rest) → Seven f → is_padded f ≡ true → line_of rest ≡ frame_line f → FirstBad text fs number line
   -- as many as it says, and something after them
-  surplus : (rest : List ℕ) → length fs ≤ mostFrames → Every Good fs → number ≡ 8 → line ≡ length fs + 4
-      → text ≡ sessionText fs ++ rest → (rest ≡ [] → ⊥) → FirstBad text fs number line
+  surplus : (rest : List ℕ) → length fs ≤ most_frames → Every Good fs → number ≡ 8 → line ≡ length fs + 4
+      → text ≡ session_text fs ++ rest → (rest ≡ [] → ⊥) → FirstBad text fs number line
 
 pub record Claims : Type 0 where
   -- the text of any list of frames is read back as that list, and ends
-  pub back : (fs : List (List ℕ)) → length fs ≤ mostFrames → Every Good fs → reading (sessionText fs) ≡ record { frames = fs; answer = End }
+  pub back : (fs : List (List ℕ)) → length fs ≤ most_frames → Every Good fs → reading (session_text fs) ≡ record { frames = fs; answer = End }
   -- a text read to its end is the text of the frames handed on, which the writer takes
   pub only : (text : List ℕ) → (reading text).answer ≡ End
-      → (length (reading text).frames ≤ mostFrames) × Every Good (reading text).frames × (sessionText (reading text).frames ≡ text)
+      → (length (reading text).frames ≤ most_frames) × Every Good (reading text).frames × (session_text (reading text).frames ≡ text)
   -- any other reading ends with a refusal, as the first bad line asks; the frames before that line are handed on
   pub refused : (text : List ℕ) (number line : ℕ) → (reading text).answer ≡ Refused number line → FirstBad text (reading text).frames number line
   pub ends : (text : List ℕ) → (reading text).answer ≡ Frame → ⊥
   -- a reader that has handed on no frame answers the same again
-  pub again : (text : List ℕ) (at : ℕ) → ((stepAt text at).answer ≡ Frame → ⊥) → stepAt text (stepAt text at).at ≡ stepAt text at
+  pub again : (text : List ℕ) (at : ℕ) → ((step_at text at).answer ≡ Frame → ⊥) → step_at text (step_at text at).at ≡ step_at text at
   -- what the writer wrote is read back as the frames that it was lent, and a text read to its end comes out of the writer with the same bytes
-  pub written : (bytes out : List ℕ) → Every (λ b. b < 256) bytes → writeRefusal bytes (length out) ≡ 0
-      → (reading (take (length (text_of bytes)) (writeWrites bytes out)) ≡ record { frames = framesOf bytes; answer = End }) × (joined (framesOf bytes) ≡ bytes)
+  pub written : (bytes out : List ℕ) → Every (λ b. b < 256) bytes → write_refusal bytes (length out) ≡ 0
+      → (reading (take (length (text_of bytes)) (write_writes bytes out)) ≡ record { frames = frames_of bytes; answer = End }) × (joined (frames_of bytes) ≡ bytes)
   pub rewritten : (text out : List ℕ) → (reading text).answer ≡ End → length text ≤ length out
-      → (writeAnswer (joined (reading text).frames) (length out) ≡ Written (length text))
-      × (writeWrites (joined (reading text).frames) out ≡ text ++ drop (length text) out)
+      → (write_answer (joined (reading text).frames) (length out) ≡ Written (length text))
+      × (write_writes (joined (reading text).frames) out ≡ text ++ drop (length text) out)
   -- one byte more than the longest file has is enough of a text
-  pub enough : (text : List ℕ) → reading (take (mostText + 1) text) ≡ reading text
+  pub enough : (text : List ℕ) → reading (take (most_text + 1) text) ≡ reading text

@@ -8,78 +8,78 @@ use native.Mathlib.Omega.{arith}
 use lib.ListN.{length, get_or, take, drop, drop_of_length-le}
 use lib.Seq.{drop-cons, take-nil}
 use borrow.Author.Tests.{le-leb}
-use Rattle.bits.specs.Ascii.{digitByte}
+use Rattle.bits.specs.Ascii.{digit_byte}
 use Rattle.text.specs.Text.{decimal}
-use Rattle.text.proofs.Decimals.{decimal-more}
-use Rattle.session_lines.specs.Lines.{digitsValue}
-use Rattle.session_lines.specs.Scans.{digitsIn}
-use Rattle.session_lines.proofs.Values.{digit-cases}
+use Rattle.text.proofs.Decimals.{decimal_more}
+use Rattle.session_lines.specs.Lines.{digits_value}
+use Rattle.session_lines.specs.Scans.{digits_in}
+use Rattle.session_lines.proofs.Values.{digit_cases}
 
 module _ (text : List ℕ) (i k : ℕ) where
   -- one digit more
-  pub digits_more : i < length text → 48 ≤ get_or text i 0 → get_or text i 0 ≤ 57 → digitsIn (take (suc k) (drop i text)) ≡ suc (digitsIn (take k (drop (i + 1) text)))
-  unfolding digitsIn
+  pub digits_more : i < length text → 48 ≤ get_or text i 0 → get_or text i 0 ≤ 57 → digits_in (take (suc k) (drop i text)) ≡ suc (digits_in (take k (drop (i + 1) text)))
+  unfolding digits_in
   digits_more h low high = rw (add-one, drop-cons text i 0 h, le-leb 48 (get_or text i 0) low, le-leb (get_or text i 0) 57 high) refl
 
   -- a byte that is no digit stops
-  pub digits-stop : i < length text → (48 ≤ get_or text i 0 → get_or text i 0 ≤ 57 → ⊥) → digitsIn (take (suc k) (drop i text)) ≡ 0
-  unfolding digitsIn
-  digits-stop h other =
+  pub digits_stop : i < length text → (48 ≤ get_or text i 0 → get_or text i 0 ≤ 57 → ⊥) → digits_in (take (suc k) (drop i text)) ≡ 0
+  unfolding digits_in
+  digits_stop h other =
       rw (drop-cons text i 0 h)
-      (digit-cases (λ t. cond t (suc (digitsIn (take k (drop (suc i) text)))) 0 ≡ 0) (get_or text i 0) (λ low high. absurd (other low high)) refl)
+      (digit_cases (λ t. cond t (suc (digits_in (take k (drop (suc i) text)))) 0 ≡ 0) (get_or text i 0) (λ low high. absurd (other low high)) refl)
 
   -- the end of the text stops
-  pub digits-out : length text ≤ i → digitsIn (take k (drop i text)) ≡ 0
-  unfolding digitsIn
-  digits-out h = rw (drop_of_length-le text h, take-nil k) refl
+  pub digits_out : length text ≤ i → digits_in (take k (drop i text)) ≡ 0
+  unfolding digits_in
+  digits_out h = rw (drop_of_length-le text h, take-nil k) refl
 
 -- where none may be taken there is none
-pub digits-none : (t : List ℕ) → digitsIn (take 0 t) ≡ 0
-unfolding digitsIn
-digits-none t = refl
+pub digits_none : (t : List ℕ) → digits_in (take 0 t) ≡ 0
+unfolding digits_in
+digits_none t = refl
 
 -- there are no more of them than bytes
-pub digits_le : (k : ℕ) (t : List ℕ) → digitsIn (take k t) ≤ length t
-unfolding digitsIn
+pub digits_le : (k : ℕ) (t : List ℕ) → digits_in (take k t) ≤ length t
+unfolding digits_in
 digits_le zero t = omega arith
 digits_le (suc k) [] = omega arith
 digits_le (suc k) (c ∷ cs) =
     let more = digits_le k cs in
-    digit-cases (λ b. cond b (suc (digitsIn (take k cs))) 0 ≤ suc (length cs)) c (λ low high. omega (arith, more)) (omega arith)
+    digit_cases (λ b. cond b (suc (digits_in (take k cs))) 0 ≤ suc (length cs)) c (λ low high. omega (arith, more)) (omega arith)
 
 -- where none is in front the value stands
-pub digits-zero : (v : ℕ) (t : List ℕ) → digitsIn t ≡ 0 → digitsValue v t ≡ v
-unfolding digitsIn digitsValue
-digits-zero v [] e = refl
-digits-zero v (c ∷ cs) e =
-    digit-cases (λ b. cond b (suc (digitsIn cs)) 0 ≡ 0 → cond b (digitsValue (10 * v + (c - 48)) cs) v ≡ v) c (λ low high z. absurd (omega arith)) (λ z. refl) e
+pub digits_zero : (v : ℕ) (t : List ℕ) → digits_in t ≡ 0 → digits_value v t ≡ v
+unfolding digits_in digits_value
+digits_zero v [] e = refl
+digits_zero v (c ∷ cs) e =
+    digit_cases (λ b. cond b (suc (digits_in cs)) 0 ≡ 0 → cond b (digits_value (10 * v + (c - 48)) cs) v ≡ v) c (λ low high z. absurd (omega arith)) (λ z. refl) e
 
 -- where one is, the first byte is a digit
-pub digits-first : (k m : ℕ) (t : List ℕ) → digitsIn (take k t) ≡ suc m → 48 ≤ get_or t 0 0
-unfolding digitsIn
-digits-first zero m t e = absurd (omega arith)
-digits-first (suc k) m [] e = absurd (omega arith)
-digits-first (suc k) m (c ∷ cs) e = digit-cases (λ b. cond b (suc (digitsIn (take k cs))) 0 ≡ suc m → 48 ≤ c) c (λ low high z. low) (λ z. absurd (omega arith)) e
+pub digits_first : (k m : ℕ) (t : List ℕ) → digits_in (take k t) ≡ suc m → 48 ≤ get_or t 0 0
+unfolding digits_in
+digits_first zero m t e = absurd (omega arith)
+digits_first (suc k) m [] e = absurd (omega arith)
+digits_first (suc k) m (c ∷ cs) e = digit_cases (λ b. cond b (suc (digits_in (take k cs))) 0 ≡ suc m → 48 ≤ c) c (λ low high z. low) (λ z. absurd (omega arith)) e
 
 -- a digit after a number in decimal
-decimal-then : (v c : ℕ) → 1 ≤ v → 48 ≤ c → c ≤ 57 → decimal (10 * v + (c - 48)) ≡ decimal v ++ (c ∷ [])
-decimal-then v c h low high =
+decimal_then : (v c : ℕ) → 1 ≤ v → 48 ≤ c → c ≤ 57 → decimal (10 * v + (c - 48)) ≡ decimal v ++ (c ∷ [])
+decimal_then v c h low high =
     let n = 10 * v + (c - 48) in
     let tens : n / 10 ≡ v = omega arith in
-    let ones : digitByte (n % 10) ≡ c = omega arith in
-    decimal-more n (omega arith) ∙ (λ i. decimal (tens i) ++ (ones i ∷ []))
+    let ones : digit_byte (n % 10) ≡ c = omega arith in
+    decimal_more n (omega arith) ∙ (λ i. decimal (tens i) ++ (ones i ∷ []))
 
 -- any digits after a number
-pub decimal-after : (k v : ℕ) (t : List ℕ) → 1 ≤ v → decimal (digitsValue v (take k t)) ≡ decimal v ++ take (digitsIn (take k t)) t
-unfolding digitsValue digitsIn
-decimal-after zero v t h = sym (append-nil (decimal v))
-decimal-after (suc k) v [] h = sym (append-nil (decimal v))
-decimal-after (suc k) v (c ∷ cs) h =
+pub decimal_after : (k v : ℕ) (t : List ℕ) → 1 ≤ v → decimal (digits_value v (take k t)) ≡ decimal v ++ take (digits_in (take k t)) t
+unfolding digits_value digits_in
+decimal_after zero v t h = sym (append-nil (decimal v))
+decimal_after (suc k) v [] h = sym (append-nil (decimal v))
+decimal_after (suc k) v (c ∷ cs) h =
     let next = 10 * v + (c - 48) in
-    let after = decimal-after k next cs in
-    digit-cases (λ b. decimal (cond b (digitsValue next (take k cs)) v) ≡ decimal v ++ take (cond b (suc (digitsIn (take k cs))) 0) (c ∷ cs)) c
+    let after = decimal_after k next cs in
+    digit_cases (λ b. decimal (cond b (digits_value next (take k cs)) v) ≡ decimal v ++ take (cond b (suc (digits_in (take k cs))) 0) (c ∷ cs)) c
     (λ low high.
     after (omega arith)
-    ∙ ap (λ (l : List ℕ). l ++ take (digitsIn (take k cs)) cs) (decimal-then v c h low high)
-    ∙ append_assoc (decimal v) (c ∷ []) (take (digitsIn (take k cs)) cs))
+    ∙ ap (λ (l : List ℕ). l ++ take (digits_in (take k cs)) cs) (decimal_then v c h low high)
+    ∙ append_assoc (decimal v) (c ∷ []) (take (digits_in (take k cs)) cs))
     (sym (append-nil (decimal v)))

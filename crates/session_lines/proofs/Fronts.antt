@@ -9,20 +9,20 @@ use lib.ListN.{length, take}
 use Rattle.session_lines.specs.Lines.{line_of}
 
 -- a line is no longer than the text
-pub line-le : (t : List ℕ) → length (line_of t) ≤ length t
+pub line_le : (t : List ℕ) → length (line_of t) ≤ length t
 unfolding line_of
-line-le [] = omega arith
-line-le (c ∷ cs) = go (eqb c 10) (line-le cs)
+line_le [] = omega arith
+line_le (c ∷ cs) = go (eqb c 10) (line_le cs)
   where
     go : (b : Bool) → length (line_of cs) ≤ length cs → length (cond b (c ∷ []) (c ∷ line_of cs)) ≤ suc (length cs)
     go true h = omega arith
     go false h = omega arith
 
 -- a line is the front of its text
-pub line-front : (t : List ℕ) → take (length (line_of t)) t ≡ line_of t
+pub line_front : (t : List ℕ) → take (length (line_of t)) t ≡ line_of t
 unfolding line_of
-line-front [] = refl
-line-front (c ∷ cs) = go (eqb c 10) (line-front cs)
+line_front [] = refl
+line_front (c ∷ cs) = go (eqb c 10) (line_front cs)
   where
     go : (b : Bool) → take (length (line_of cs)) cs ≡ line_of cs
         → take (length (cond b (c ∷ []) (c ∷ line_of cs))) (c ∷ cs) ≡ cond b (c ∷ []) (c ∷ line_of cs)

@@ -5,47 +5,47 @@ use Prim.Native.Nat.{ℕ, ◌+◌, ◌≤◌}
 use native.Mathlib.Omega.{arith}
 use lib.ListN.{length, drop}
 use lib.Seq.{drop-drop}
-use Rattle.session.specs.Format.{fileLine, orderLine, countLine, header, mostFrames}
+use Rattle.session.specs.Format.{file_line, order_line, count_line, header, most_frames}
 use Rattle.session_lines.specs.Lines.{line_of}
-use Rattle.session_lines.specs.Headers.{badHeaderLine, framesIn, firstPlace}
-use Rattle.session_lines.proofs.Scans.{begins-is}
-use Rattle.session_lines.proofs.CountLines.{count-first, count-value, count-good}
-use Rattle.session_lines.proofs.HeaderLines.{header-passed}
+use Rattle.session_lines.specs.Headers.{bad_header_line, frames_in, first_place}
+use Rattle.session_lines.proofs.Scans.{begins_is}
+use Rattle.session_lines.proofs.CountLines.{count_first, count_value, count_good}
+use Rattle.session_lines.proofs.HeaderLines.{header_passed}
 
 -- the first frame's line comes after the third line
-place_is : (text : List ℕ) → 22 + length (countLine (framesIn text)) ≡ firstPlace text
-unfolding firstPlace header
+place_is : (text : List ℕ) → 22 + length (count_line (frames_in text)) ≡ first_place text
+unfolding first_place header
 place_is text = omega arith
 
 -- three good lines are the header for the frames that they promise
-pub good-header : (text : List ℕ) → badHeaderLine text ≡ 0 → (text ≡ header (framesIn text) ++ drop (firstPlace text) text) × (framesIn text ≤ mostFrames)
+pub good_header : (text : List ℕ) → bad_header_line text ≡ 0 → (text ≡ header (frames_in text) ++ drop (first_place text) text) × (frames_in text ≤ most_frames)
 unfolding header
-good-header text e =
-    let p = header-passed text e in
-    let third = countLine (framesIn text) in
-    let order : drop 10 text ≡ orderLine ++ drop 22 text =
-    begins-is orderLine (drop 10 text) p.order ∙ ap (λ (l : List ℕ). orderLine ++ l) (drop-drop 12 10 text) in
-    let count : drop 22 text ≡ third ++ drop (firstPlace text) text =
-    begins-is third (drop 22 text) p.count
+good_header text e =
+    let p = header_passed text e in
+    let third = count_line (frames_in text) in
+    let order : drop 10 text ≡ order_line ++ drop 22 text =
+    begins_is order_line (drop 10 text) p.order ∙ ap (λ (l : List ℕ). order_line ++ l) (drop-drop 12 10 text) in
+    let count : drop 22 text ≡ third ++ drop (first_place text) text =
+    begins_is third (drop 22 text) p.count
     ∙ ap (λ (l : List ℕ). third ++ l) (drop-drop (length third) 22 text ∙ ap (λ (k : ℕ). drop k text) (place_is text)) in (
-      begins-is fileLine text p.file
-          ∙ ap (λ (l : List ℕ). fileLine ++ l) order
-          ∙ ap (λ (l : List ℕ). fileLine ++ (orderLine ++ l)) count,
+      begins_is file_line text p.file
+          ∙ ap (λ (l : List ℕ). file_line ++ l) order
+          ∙ ap (λ (l : List ℕ). file_line ++ (order_line ++ l)) count,
       p.most,
     )
 
-module _ (n : ℕ) (rest : List ℕ) (h : n ≤ mostFrames) where
+module _ (n : ℕ) (rest : List ℕ) (h : n ≤ most_frames) where
   -- the header for at most 2,000 frames has three good lines
-  pub header-good : badHeaderLine (header n ++ rest) ≡ 0
-  unfolding badHeaderLine header line_of
-  header-good = rw (count-first n rest, count-good n h) refl
+  pub header_good : bad_header_line (header n ++ rest) ≡ 0
+  unfolding bad_header_line header line_of
+  header_good = rw (count_first n rest, count_good n h) refl
 
   -- and promises so many
-  pub header-frames : framesIn (header n ++ rest) ≡ n
-  unfolding framesIn header
-  header-frames = rw (count-first n rest) (count-value n h)
+  pub header_frames : frames_in (header n ++ rest) ≡ n
+  unfolding frames_in header
+  header_frames = rw (count_first n rest) (count_value n h)
 
   -- and they start after it
-  pub header-place : firstPlace (header n ++ rest) ≡ length (header n)
-  unfolding firstPlace
-  header-place = ap (λ (m : ℕ). length (header m)) header-frames
+  pub header_place : first_place (header n ++ rest) ≡ length (header n)
+  unfolding first_place
+  header_place = ap (λ (m : ℕ). length (header m)) header_frames

@@ -13,56 +13,56 @@ use borrow.Author.Tests.{eq-eqb, eqb-true}
 use Rattle.session_lines.specs.Scans.{begins}
 
 -- a text that begins with bytes is these and what follows them
-pub begins-is : (w t : List ℕ) → begins w t ≡ true → t ≡ w ++ drop (length w) t
+pub begins_is : (w t : List ℕ) → begins w t ≡ true → t ≡ w ++ drop (length w) t
 unfolding begins
-begins-is [] t e = refl
-begins-is (b ∷ bs) [] e = absurd (false≢true e)
-begins-is (b ∷ bs) (c ∷ cs) e =
+begins_is [] t e = refl
+begins_is (b ∷ bs) [] e = absurd (false≢true e)
+begins_is (b ∷ bs) (c ∷ cs) e =
     let p = (and-eq-true_iff (eqb b c) (begins bs cs)).0 e in
-    λ i. sym (eqb-true b c p.0) i ∷ begins-is bs cs p.1 i
+    λ i. sym (eqb-true b c p.0) i ∷ begins_is bs cs p.1 i
 
 -- bytes and anything after them begin with these bytes
-pub begins-append : (w rest : List ℕ) → begins w (w ++ rest) ≡ true
+pub begins_append : (w rest : List ℕ) → begins w (w ++ rest) ≡ true
 unfolding begins
-begins-append [] rest = refl
-begins-append (b ∷ bs) rest = rw (eq-eqb b b refl) (begins-append bs rest)
+begins_append [] rest = refl
+begins_append (b ∷ bs) rest = rw (eq-eqb b b refl) (begins_append bs rest)
 
 -- to begin with bytes and others is to begin with the first and then with the others
-pub begins-join : (v w t : List ℕ) → begins (v ++ w) t ≡ begins v t && begins w (drop (length v) t)
+pub begins_join : (v w t : List ℕ) → begins (v ++ w) t ≡ begins v t && begins w (drop (length v) t)
 unfolding begins
-begins-join [] w t = refl
-begins-join (b ∷ bs) w [] = refl
-begins-join (b ∷ bs) w (c ∷ cs) =
-    ap (λ (t : Bool). eqb b c && t) (begins-join bs w cs) ∙ sym (and_assoc (eqb b c) (begins bs cs) (begins w (drop (length bs) cs)))
+begins_join [] w t = refl
+begins_join (b ∷ bs) w [] = refl
+begins_join (b ∷ bs) w (c ∷ cs) =
+    ap (λ (t : Bool). eqb b c && t) (begins_join bs w cs) ∙ sym (and_assoc (eqb b c) (begins bs cs) (begins w (drop (length bs) cs)))
 
 -- only as many bytes of a text count as there are to compare
-pub begins-take : (w t : List ℕ) (n : ℕ) → length w ≤ n → begins w (take n t) ≡ begins w t
+pub begins_take : (w t : List ℕ) (n : ℕ) → length w ≤ n → begins w (take n t) ≡ begins w t
 unfolding begins
-begins-take [] t n h = refl
-begins-take (b ∷ bs) t zero h = absurd (not-suc-le-zero h)
-begins-take (b ∷ bs) [] (suc n) h = refl
-begins-take (b ∷ bs) (c ∷ cs) (suc n) h = ap (λ (t : Bool). eqb b c && t) (begins-take bs cs n (le_of_suc-le-suc h))
+begins_take [] t n h = refl
+begins_take (b ∷ bs) t zero h = absurd (not-suc-le-zero h)
+begins_take (b ∷ bs) [] (suc n) h = refl
+begins_take (b ∷ bs) (c ∷ cs) (suc n) h = ap (λ (t : Bool). eqb b c && t) (begins_take bs cs n (le_of_suc-le-suc h))
 
 -- a text shorter than the bytes does not begin with them
-pub begins-short : (w t : List ℕ) → length t < length w → begins w t ≡ false
+pub begins_short : (w t : List ℕ) → length t < length w → begins w t ≡ false
 unfolding begins
-begins-short [] t h = absurd (not-suc-le-zero h)
-begins-short (b ∷ bs) [] h = refl
-begins-short (b ∷ bs) (c ∷ cs) h = go (eqb b c) (begins-short bs cs (le_of_suc-le-suc h))
+begins_short [] t h = absurd (not-suc-le-zero h)
+begins_short (b ∷ bs) [] h = refl
+begins_short (b ∷ bs) (c ∷ cs) h = go (eqb b c) (begins_short bs cs (le_of_suc-le-suc h))
   where
     go : (t : Bool) → begins bs cs ≡ false → t && begins bs cs ≡ false
     go true e = e
     go false e = refl
 
 -- from place i on, the bytes there are compared and then those one place further
-pub begins-more : (w text : List ℕ) (at i : ℕ) → i < length w → at + length w ≤ length text
+pub begins_more : (w text : List ℕ) (at i : ℕ) → i < length w → at + length w ≤ length text
     → begins (drop i w) (drop (at + i) text) ≡ eqb (get_or w i 0) (get_or text (at + i) 0) && begins (drop (i + 1) w) (drop (at + (i + 1)) text)
 unfolding begins
-begins-more w text at i h room =
+begins_more w text at i h room =
     let next : at + (i + 1) ≡ suc (at + i) = omega arith in
     rw (next, add-one, drop-cons w i 0 h, drop-cons text (at + i) 0 (omega arith)) refl
 
 -- past the last of the bytes nothing is left to compare
-pub begins-out : (w t : List ℕ) (i : ℕ) → length w ≤ i → begins (drop i w) t ≡ true
+pub begins_out : (w t : List ℕ) (i : ℕ) → length w ≤ i → begins (drop i w) t ≡ true
 unfolding begins
-begins-out w t i h = rw (drop_of_length-le w h) refl
+begins_out w t i h = rw (drop_of_length-le w h) refl

@@ -1,10 +1,10 @@
 -- Document 02, T-01: the lines of a text, and which of them belong in a session file. Each is judged with its end.
 use Rattle.std.specs.Prelude.{ℕ, zero, suc, ◌+◌, ◌-◌, ◌*◌, ◌<◌, ◌≡◌, Bool, true, false, not, ◌&&◌, ◌||◌, cond, List, [], ◌∷◌, ltb, leb, eqb, length, take, drop, replicate}
 use Rattle.bits.specs.Lists.{Every}
-use Rattle.bits.specs.Refusals.{Table, firstRefusal}
+use Rattle.bits.specs.Refusals.{Table, first_refusal}
 use Rattle.text.specs.Text.{ascii}
-use Rattle.session.specs.Format.{countLine, mostFrames}
-use Rattle.session.specs.Writing.{isPadded}
+use Rattle.session.specs.Format.{count_line, most_frames}
+use Rattle.session.specs.Writing.{is_padded}
 use Rattle.session_lines.specs.declared.frames.FrameLine.{FrameLine}
 
 -- the first line of a text with the LF that ends it; all of it where there is none
@@ -17,75 +17,75 @@ abbrev pub line_at : List ℕ → ℕ → List ℕ
 line_at text at = line_of (drop at text)
 
 -- whether two lines are the same
-abbrev pub sameBytes : List ℕ → List ℕ → Bool
-sameBytes [] [] = true
-sameBytes [] (y ∷ ys) = false
-sameBytes (x ∷ xs) [] = false
-sameBytes (x ∷ xs) (y ∷ ys) = eqb x y && sameBytes xs ys
+abbrev pub same_bytes : List ℕ → List ℕ → Bool
+same_bytes [] [] = true
+same_bytes [] (y ∷ ys) = false
+same_bytes (x ∷ xs) [] = false
+same_bytes (x ∷ xs) (y ∷ ys) = eqb x y && same_bytes xs ys
 
 -- a decimal digit
-abbrev pub isDigit : ℕ → Bool
-isDigit c = leb 48 c && leb c 57
+abbrev pub is_digit : ℕ → Bool
+is_digit c = leb 48 c && leb c 57
 
 -- the number that the digits in front of a text write, after those of value v
-unfoldable pub digitsValue : ℕ → List ℕ → ℕ
-digitsValue v [] = v
-digitsValue v (c ∷ cs) = cond (isDigit c) (digitsValue (10 * v + (c - 48)) cs) v
+unfoldable pub digits_value : ℕ → List ℕ → ℕ
+digits_value v [] = v
+digits_value v (c ∷ cs) = cond (is_digit c) (digits_value (10 * v + (c - 48)) cs) v
 
 -- the number in the third line, of at most four digits: `frames=` has seven bytes
 abbrev pub count_of : List ℕ → ℕ
-count_of line = digitsValue 0 (take 4 (drop 7 line))
+count_of line = digits_value 0 (take 4 (drop 7 line))
 
 -- a third line: the one for its number, which is at most 2,000
-unfoldable pub isCountLine : List ℕ → Bool
-isCountLine line = leb (count_of line) mostFrames && sameBytes line (countLine (count_of line))
+unfoldable pub is_count_line : List ℕ → Bool
+is_count_line line = leb (count_of line) most_frames && same_bytes line (count_line (count_of line))
 
 -- a lower-case hexadecimal digit: `0` to `9`, or `a` to `f`
-abbrev pub isHex : ℕ → Bool
-isHex c = isDigit c || (leb 97 c && leb c 102)
+abbrev pub is_hex : ℕ → Bool
+is_hex c = is_digit c || (leb 97 c && leb c 102)
 
 -- its value
-abbrev pub hexValue : ℕ → ℕ
-hexValue c = cond (ltb c 97) (c - 48) (c - 87)
+abbrev pub hex_value : ℕ → ℕ
+hex_value c = cond (ltb c 97) (c - 48) (c - 87)
 
 -- nothing but such digits
-unfoldable pub allHex : List ℕ → Bool
-allHex [] = true
-allHex (c ∷ cs) = isHex c && allHex cs
+unfoldable pub all_hex : List ℕ → Bool
+all_hex [] = true
+all_hex (c ∷ cs) = is_hex c && all_hex cs
 
 -- the bytes of pairs of digits
-unfoldable pub hexBytes : List ℕ → List ℕ
-hexBytes [] = []
-hexBytes (c ∷ []) = []
-hexBytes (c ∷ d ∷ cs) = (16 * hexValue c + hexValue d) ∷ hexBytes cs
+unfoldable pub hex_bytes : List ℕ → List ℕ
+hex_bytes [] = []
+hex_bytes (c ∷ []) = []
+hex_bytes (c ∷ d ∷ cs) = (16 * hex_value c + hex_value d) ∷ hex_bytes cs
 
 -- a frame's line: `f=`, 14 digits, and the line end
-unfoldable pub isFrameLine : List ℕ → Bool
-isFrameLine line = sameBytes (take 2 line) (ascii "f=") && allHex (take 14 (drop 2 line)) && sameBytes (drop 16 line) (ascii "\n")
+unfoldable pub is_frame_line : List ℕ → Bool
+is_frame_line line = same_bytes (take 2 line) (ascii "f=") && all_hex (take 14 (drop 2 line)) && same_bytes (drop 16 line) (ascii "\n")
 
 -- the frame in it
 unfoldable pub frame_of : List ℕ → List ℕ
-frame_of line = hexBytes (take 14 (drop 2 line))
+frame_of line = hex_bytes (take 14 (drop 2 line))
 
 -- seven bytes, whatever their last bits
 abbrev pub Seven : List ℕ → Type 0
 Seven frame = (length frame ≡ 7) × Every (λ b. b < 256) frame
 
 -- what refuses a line where a frame's is due: it is none; its frame has padding bits
-abbrev pub lineTable : List ℕ → Table
-lineTable line = (not (isFrameLine line), 8) ∷ (isPadded (frame_of line), 3) ∷ []
+abbrev pub line_table : List ℕ → Table
+line_table line = (not (is_frame_line line), 8) ∷ (is_padded (frame_of line), 3) ∷ []
 
 -- the refusal, 0 is none
-abbrev pub lineRefusal : List ℕ → ℕ
-lineRefusal line = firstRefusal (lineTable line)
+abbrev pub line_refusal : List ℕ → ℕ
+line_refusal line = first_refusal (line_table line)
 
 -- what is read of such a line: the frame, or the refusal
-abbrev pub noFrame : ℕ → FrameLine
-noFrame n = record { refusal = n; frame = replicate 7 0 }
+abbrev pub no_frame : ℕ → FrameLine
+no_frame n = record { refusal = n; frame = replicate 7 0 }
 
-abbrev pub frameUnless : ℕ → List ℕ → FrameLine
-frameUnless zero frame = record { refusal = 0; frame = frame }
-frameUnless (suc n) frame = noFrame (suc n)
+abbrev pub frame_unless : ℕ → List ℕ → FrameLine
+frame_unless zero frame = record { refusal = 0; frame = frame }
+frame_unless (suc n) frame = no_frame (suc n)
 
-unfoldable pub frameRead : List ℕ → FrameLine
-frameRead line = frameUnless (lineRefusal line) (frame_of line)
+unfoldable pub frame_read : List ℕ → FrameLine
+frame_read line = frame_unless (line_refusal line) (frame_of line)

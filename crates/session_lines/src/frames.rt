@@ -1,6 +1,6 @@
 // The line of a frame.
 ghost use Rattle.std.specs.Prelude.{◌≡◌, true, ◌+◌, ◌*◌, ◌≤◌, length};
-ghost use Rattle.session_lines.specs.Lines.{line_at, isHex, hexValue, allHex, hexBytes, isFrameLine, frame_of, noFrame, frameRead};
+ghost use Rattle.session_lines.specs.Lines.{line_at, is_hex, hex_value, all_hex, hex_bytes, is_frame_line, frame_of, no_frame, frame_read};
 
 // The refusal of a line, 0 for none, and its frame, seven zeros where it is refused.
 #[derive(Drop)]
@@ -11,14 +11,14 @@ pub struct FrameLine {
 
 // Whether a byte is a lower-case hexadecimal digit.
 fn is_hex(c: u8) -> bool
-    ensures { result ≡ isHex c }
+    ensures { result ≡ is_hex c }
 {
     ((b'0' <= c) & (c <= b'9')) | ((b'a' <= c) & (c <= b'f'))
 }
 
 // Nothing but such digits. There is no early end: so the compiler tests many at once.
 fn all_hex(digits: &[u8]) -> bool
-    ensures { result ≡ allHex digits.now }
+    ensures { result ≡ all_hex digits.now }
 {
     let mut all = true;
     for i in 0..digits.len() {
@@ -29,8 +29,8 @@ fn all_hex(digits: &[u8]) -> bool
 
 // The value of such a digit.
 fn hex_value(c: u8) -> u8
-    requires { isHex c ≡ true }
-    ensures equal { result ≡ hexValue c }
+    requires { is_hex c ≡ true }
+    ensures equal { result ≡ hex_value c }
     ensures bound { result ≤ 15 }
 {
     if c < b'a' { c - b'0' } else { c - 87 }
@@ -38,15 +38,15 @@ fn hex_value(c: u8) -> u8
 
 // The byte of two such digits.
 fn hex_byte(high: u8, low: u8) -> u8
-    requires { (isHex high ≡ true) × (isHex low ≡ true) }
-    ensures { result ≡ 16 * hexValue high + hexValue low }
+    requires { (is_hex high ≡ true) × (is_hex low ≡ true) }
+    ensures { result ≡ 16 * hex_value high + hex_value low }
 {
     16 * hex_value(high) + hex_value(low)
 }
 
 // Whether the line from `at` on is that of a frame.
 fn is_frame_line(text: &[u8], at: usize) -> bool
-    ensures { result ≡ isFrameLine (line_at text.now at) }
+    ensures { result ≡ is_frame_line (line_at text.now at) }
 {
     if text.len() < 17 {
         return false;
@@ -62,8 +62,8 @@ fn is_frame_line(text: &[u8], at: usize) -> bool
 
 // The seven bytes of 14 digits.
 fn seven_bytes(digits: &[u8]) -> [u8; 7]
-    requires { (length digits.now ≡ 14) × (allHex digits.now ≡ true) }
-    ensures { result ≡ hexBytes digits.now }
+    requires { (length digits.now ≡ 14) × (all_hex digits.now ≡ true) }
+    ensures { result ≡ hex_bytes digits.now }
 {
     let mut frame = [0u8; 7];
     for i in 0..7 {
@@ -74,7 +74,7 @@ fn seven_bytes(digits: &[u8]) -> [u8; 7]
 
 // The frame in a line that is one.
 fn frame_in(text: &[u8], at: usize) -> [u8; 7]
-    requires { isFrameLine (line_at text.now at) ≡ true }
+    requires { is_frame_line (line_at text.now at) ≡ true }
     ensures { result ≡ frame_of (line_at text.now at) }
 {
     seven_bytes(&text[at + 2..at + 16])
@@ -82,7 +82,7 @@ fn frame_in(text: &[u8], at: usize) -> [u8; 7]
 
 // A line that is refused.
 fn no_frame(n: u8) -> FrameLine
-    ensures { result ≡ noFrame n }
+    ensures { result ≡ no_frame n }
 {
     FrameLine {
         refusal: n,
@@ -92,7 +92,7 @@ fn no_frame(n: u8) -> FrameLine
 
 // The frame of the line from `at` on. Refused: 8, a line that is none; 3, one of the frame's last two bits set.
 pub fn read_frame(text: &[u8], at: usize) -> FrameLine
-    ensures { result ≡ frameRead (line_at text.now at) }
+    ensures { result ≡ frame_read (line_at text.now at) }
 {
     if !is_frame_line(text, at) {
         return no_frame(8);

@@ -1,7 +1,7 @@
 // The three lines before the frames.
 ghost use Rattle.std.specs.Prelude.{◌≡◌, ◌≤◌};
-ghost use Rattle.session_lines.specs.Lines.{isCountLine};
-ghost use Rattle.session_lines.specs.Headers.{thirdLine, badHeaderLine, headerOf};
+ghost use Rattle.session_lines.specs.Lines.{is_count_line};
+ghost use Rattle.session_lines.specs.Headers.{third_line, bad_header_line, header_of};
 ghost use Rattle.session_lines.specs.Scans.{Counted};
 
 use crate::bytes::has_bytes;
@@ -48,7 +48,7 @@ fn count_in(text: &[u8]) -> Count
 // Whether the third line is good: the number in it is not too high, has no `0` in front of another digit, and ends with the line.
 fn is_count_line(text: &[u8], value: usize, end: usize) -> bool
     requires { Counted text.now value end }
-    ensures { result ≡ isCountLine (thirdLine text.now) }
+    ensures { result ≡ is_count_line (third_line text.now) }
 {
     if !has_bytes(text, 22, b"frames=") {
         return false;
@@ -62,7 +62,7 @@ fn is_count_line(text: &[u8], value: usize, end: usize) -> bool
 // The first bad line, 0 for none.
 fn bad_line(text: &[u8], value: usize, end: usize) -> u16
     requires { Counted text.now value end }
-    ensures { result ≡ badHeaderLine text.now }
+    ensures { result ≡ bad_header_line text.now }
 {
     if !has_bytes(text, 0, b"file=melp\n") {
         return 1;
@@ -78,7 +78,7 @@ fn bad_line(text: &[u8], value: usize, end: usize) -> u16
 
 // What the three lines of a text tell, each judged in turn. Refused: 8, a bad one.
 pub fn read_header(text: &[u8]) -> Header
-    ensures { result ≡ headerOf text.now }
+    ensures { result ≡ header_of text.now }
 {
     let count = count_in(text);
     let bad = bad_line(text, count.value, count.end);

@@ -1,6 +1,6 @@
 // A reader of session files: the lent text, and the offset of what comes next.
 ghost use Rattle.std.specs.Prelude.{◌≡◌};
-ghost use Rattle.session_reader.specs.Steps.{stepAt};
+ghost use Rattle.session_reader.specs.Steps.{step_at};
 ghost use Rattle.session_reader.specs.Readers.{handed};
 
 use crate::Step;
@@ -46,7 +46,7 @@ impl<'a> Reader<'a> {
 
 // The step of a reader at an offset: for callers that keep the text and the offset themselves.
 pub fn read_at(text: &[u8], at: usize) -> Step
-    ensures { result ≡ stepAt text.now at }
+    ensures { result ≡ step_at text.now at }
 {
     let handed = Reader { text, at }.next();
     handed.step

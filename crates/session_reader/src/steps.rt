@@ -1,6 +1,6 @@
 // The parser: what stands at an offset of a text.
 ghost use Rattle.std.specs.Prelude.{◌≡◌, ◌<◌};
-ghost use Rattle.session_reader.specs.Steps.{stays, placeOf, isPlace, frameStep, lastStep, stepAfter, stepAt};
+ghost use Rattle.session_reader.specs.Steps.{stays, place_of, is_place, frame_step, last_step, step_after, step_at};
 
 use crate::{Answer, Step};
 use session_lines::{read_frame, read_header};
@@ -19,7 +19,7 @@ fn stay(answer: Answer, at: usize) -> Step
 // The line at a place, after those of k frames.
 fn frame_step(text: &[u8], k: usize, at: usize, place: usize) -> Step
     requires { k < 10000 }
-    ensures { result ≡ frameStep text.now k at place }
+    ensures { result ≡ frame_step text.now k at place }
 {
     let line = read_frame(text, place);
     let n = line.refusal;
@@ -37,7 +37,7 @@ fn frame_step(text: &[u8], k: usize, at: usize, place: usize) -> Step
 // The place after the last frame: the end of the text, or a line too many.
 fn last_step(text: &[u8], k: usize, at: usize, place: usize) -> Step
     requires { k < 10000 }
-    ensures { result ≡ lastStep text.now k at place }
+    ensures { result ≡ last_step text.now k at place }
 {
     if text.len() == place {
         return stay(Answer::End, at);
@@ -47,7 +47,7 @@ fn last_step(text: &[u8], k: usize, at: usize, place: usize) -> Step
 
 // Whether one of so many frames' lines starts at the place, or the last one ends there.
 fn is_place(first: usize, frames: usize, place: usize) -> bool
-    ensures { result ≡ isPlace first frames place }
+    ensures { result ≡ is_place first frames place }
 {
     if place < first {
         return false;
@@ -57,7 +57,7 @@ fn is_place(first: usize, frames: usize, place: usize) -> bool
 
 // Where the line to read starts.
 fn place_of(first: usize, at: usize) -> usize
-    ensures { result ≡ placeOf first at }
+    ensures { result ≡ place_of first at }
 {
     if at == 0 { first } else { at }
 }
@@ -65,7 +65,7 @@ fn place_of(first: usize, at: usize) -> usize
 // The step after three good lines.
 fn step_after(text: &[u8], first: usize, frames: usize, at: usize) -> Step
     requires { frames < 10000 }
-    ensures { result ≡ stepAfter text.now first frames at }
+    ensures { result ≡ step_after text.now first frames at }
 {
     let place = place_of(first, at);
     if !is_place(first, frames, place) {
@@ -81,7 +81,7 @@ fn step_after(text: &[u8], first: usize, frames: usize, at: usize) -> Step
 // What stands at an offset. Reading begins at 0. Refused: 8, a line that belongs to no session file, the first three judged
 // first, or an offset where no line can start; 3, a frame's line with one of its last two bits set.
 pub fn parse_at(text: &[u8], at: usize) -> Step
-    ensures { result ≡ stepAt text.now at }
+    ensures { result ≡ step_at text.now at }
 {
     let header = read_header(text);
     let n = header.refusal;

@@ -9,76 +9,76 @@ use lib.Dec.{eqb}
 use lib.ListN.{length, get_or}
 use borrow.Author.Tests.{eq-eqb, ne_eqb}
 use Rattle.bits.specs.Bits.{cut}
-use Rattle.bits.proofs.Cut.{cut-getD}
+use Rattle.bits.proofs.Cut.{cut_get_or}
 use Rattle.sets.specs.declared.ParameterSet.{ParameterSet}
 use Rattle.sets.specs.declared.ParameterSet.TheVariants.{Unvoiced, Voiced}
-use Rattle.set_bytes.specs.SetBytes.{bytes_of, readIndices, readVoicing, setIn, same, is_set, readAnswer}
+use Rattle.set_bytes.specs.SetBytes.{bytes_of, read_indices, read_voicing, set_in, same, is_set, read_answer}
 use Rattle.set_bytes.specs.declared.SetAnswer.TheVariants.{Set, Refused}
-use Rattle.set_bytes.proofs.Comparison.{same-append}
-use Rattle.set_bytes.proofs.SetBytes.{bytes-length, bytes-fits, fits-only, answer-is}
+use Rattle.set_bytes.proofs.Comparison.{same_append}
+use Rattle.set_bytes.proofs.SetBytes.{bytes_length, bytes_fits, fits_only, answer_is}
 
 -- five tests, joined from the left or from the right
-five-tests : (a b c d e : Bool) → a && b && c && d && e ≡ a && (b && (c && (d && (e && true))))
-five-tests false b c d e = refl
-five-tests true false c d e = refl
-five-tests true true false d e = refl
-five-tests true true true false e = refl
-five-tests true true true true false = refl
-five-tests true true true true true = refl
+five_tests : (a b c d e : Bool) → a && b && c && d && e ≡ a && (b && (c && (d && (e && true))))
+five_tests false b c d e = refl
+five_tests true false c d e = refl
+five_tests true true false d e = refl
+five_tests true true true false e = refl
+five_tests true true true true false = refl
+five_tests true true true true true = refl
 
 module _ (bytes : List ℕ) where
   -- the two sets that bytes can be those of
   abbrev voiced : ParameterSet
-  voiced = Voiced (readIndices bytes) (readVoicing bytes)
+  voiced = Voiced (read_indices bytes) (read_voicing bytes)
 
   abbrev unvoiced : ParameterSet
-  unvoiced = Unvoiced (readIndices bytes)
+  unvoiced = Unvoiced (read_indices bytes)
 
   -- the first byte tells which one
-  set-voiced : get_or bytes 0 0 ≡ 1 → setIn bytes ≡ voiced
-  unfolding setIn
-  set-voiced e = ap (λ (b : Bool). cond b voiced unvoiced) (eq-eqb (get_or bytes 0 0) 1 e)
+  set_voiced : get_or bytes 0 0 ≡ 1 → set_in bytes ≡ voiced
+  unfolding set_in
+  set_voiced e = ap (λ (b : Bool). cond b voiced unvoiced) (eq-eqb (get_or bytes 0 0) 1 e)
 
-  set-unvoiced : (get_or bytes 0 0 ≡ 1 → ⊥) → setIn bytes ≡ unvoiced
-  unfolding setIn
-  set-unvoiced e = ap (λ (b : Bool). cond b voiced unvoiced) (ne_eqb (get_or bytes 0 0) 1 e)
+  set_unvoiced : (get_or bytes 0 0 ≡ 1 → ⊥) → set_in bytes ≡ unvoiced
+  unfolding set_in
+  set_unvoiced e = ap (λ (b : Bool). cond b voiced unvoiced) (ne_eqb (get_or bytes 0 0) 1 e)
 
   -- bytes of another number are those of no set
-  pub size-owes : (length bytes ≡ 11 → ⊥) → Refused 5 ≡ readAnswer bytes
-  size-owes h = go (is_set bytes) refl
+  pub size_owes : (length bytes ≡ 11 → ⊥) → Refused 5 ≡ read_answer bytes
+  size_owes h = go (is_set bytes) refl
     where
-      go : (b : Bool) → is_set bytes ≡ b → Refused 5 ≡ readAnswer bytes
-      go true e = absurd (h (ap length (fits-only bytes e) ∙ bytes-length (setIn bytes)))
-      go false e = sym (answer-is bytes false e)
+      go : (b : Bool) → is_set bytes ≡ b → Refused 5 ≡ read_answer bytes
+      go true e = absurd (h (ap length (fits_only bytes e) ∙ bytes_length (set_in bytes)))
+      go false e = sym (answer_is bytes false e)
 
   module _ (eleven : length bytes ≡ 11) where
     -- eleven bytes, one by one
     entries : cut (λ j. get_or bytes j 0) 0 11 ≡ bytes
-    entries = ap (cut (λ j. get_or bytes j 0) 0) (sym eleven) ∙ cut-getD 0 bytes
+    entries = ap (cut (λ j. get_or bytes j 0) 0) (sym eleven) ∙ cut_get_or 0 bytes
 
     -- an unvoiced set has 0 in the five bytes that are none of its indices
-    pub unvoiced-is : eqb (get_or bytes 0 0) 0 && eqb (get_or bytes 1 0) 0 && eqb (get_or bytes 8 0) 0 && eqb (get_or bytes 9 0) 0 && eqb (get_or bytes 10 0) 0
+    pub unvoiced_is : eqb (get_or bytes 0 0) 0 && eqb (get_or bytes 1 0) 0 && eqb (get_or bytes 8 0) 0 && eqb (get_or bytes 9 0) 0 && eqb (get_or bytes 10 0) 0
         ≡ same bytes (bytes_of unvoiced)
-    unvoiced-is =
+    unvoiced_is =
         let at : ℕ → ℕ = λ j. get_or bytes j 0 in
-        let rest = same-append (cut at 2 6) (cut at 8 3) (0 ∷ 0 ∷ 0 ∷ []) in
-        five-tests (eqb (at 0) 0) (eqb (at 1) 0) (eqb (at 8) 0) (eqb (at 9) 0) (eqb (at 10) 0)
+        let rest = same_append (cut at 2 6) (cut at 8 3) (0 ∷ 0 ∷ 0 ∷ []) in
+        five_tests (eqb (at 0) 0) (eqb (at 1) 0) (eqb (at 8) 0) (eqb (at 9) 0) (eqb (at 10) 0)
         ∙ ap (λ (t : Bool). eqb (at 0) 0 && (eqb (at 1) 0 && t)) (sym rest)
         ∙ ap (λ (l : List ℕ). same l (bytes_of unvoiced)) entries
 
     -- 1 in front: a voiced set
-    pub voiced-owes : get_or bytes 0 0 ≡ 1 → Set voiced ≡ readAnswer bytes
-    voiced-owes e =
+    pub voiced_owes : get_or bytes 0 0 ≡ 1 → Set voiced ≡ read_answer bytes
+    voiced_owes e =
         let own : bytes ≡ bytes_of voiced = sym entries ∙ ap (λ (n : ℕ). n ∷ cut (λ j. get_or bytes j 0) 1 10) e in
-        ap Set (sym (set-voiced e)) ∙ sym (answer-is bytes true (bytes-fits bytes voiced own))
+        ap Set (sym (set_voiced e)) ∙ sym (answer_is bytes true (bytes_fits bytes voiced own))
 
   -- otherwise the bytes of the unvoiced set, or of none
-  pub unvoiced-owes : (get_or bytes 0 0 ≡ 1 → ⊥) → same bytes (bytes_of unvoiced) ≡ true → Set unvoiced ≡ readAnswer bytes
+  pub unvoiced_owes : (get_or bytes 0 0 ≡ 1 → ⊥) → same bytes (bytes_of unvoiced) ≡ true → Set unvoiced ≡ read_answer bytes
   unfolding is_set
-  unvoiced-owes h e =
-      let is = set-unvoiced h in
-      ap Set (sym is) ∙ sym (answer-is bytes true (ap (λ (s : ParameterSet). same bytes (bytes_of s)) is ∙ e))
+  unvoiced_owes h e =
+      let is = set_unvoiced h in
+      ap Set (sym is) ∙ sym (answer_is bytes true (ap (λ (s : ParameterSet). same bytes (bytes_of s)) is ∙ e))
 
-  pub other-owes : (get_or bytes 0 0 ≡ 1 → ⊥) → same bytes (bytes_of unvoiced) ≡ false → Refused 5 ≡ readAnswer bytes
+  pub other_owes : (get_or bytes 0 0 ≡ 1 → ⊥) → same bytes (bytes_of unvoiced) ≡ false → Refused 5 ≡ read_answer bytes
   unfolding is_set
-  other-owes h e = sym (answer-is bytes false (ap (λ (s : ParameterSet). same bytes (bytes_of s)) (set-unvoiced h) ∙ e))
+  other_owes h e = sym (answer_is bytes false (ap (λ (s : ParameterSet). same bytes (bytes_of s)) (set_unvoiced h) ∙ e))

@@ -15,14 +15,14 @@ same_self [] = tt
 same_self (x ∷ a) = and_both (eqb x x) (same a a) (T_true (eqb x x) (eq-eqb x x refl)) (same_self a)
 
 -- lists that pass are the same
-pub same-only : (a b : List ℕ) → T (same a b) → a ≡ b
-same-only [] [] t = refl
-same-only [] (y ∷ b) t = absurd t
-same-only (x ∷ a) [] t = absurd t
-same-only (x ∷ a) (y ∷ b) t =
-    ap₂ (λ (z : ℕ) (l : List ℕ). z ∷ l) (eqb→eq x y (and_left (eqb x y) (same a b) t)) (same-only a b (and_right (eqb x y) (same a b) t))
+pub same_only : (a b : List ℕ) → T (same a b) → a ≡ b
+same_only [] [] t = refl
+same_only [] (y ∷ b) t = absurd t
+same_only (x ∷ a) [] t = absurd t
+same_only (x ∷ a) (y ∷ b) t =
+    ap₂ (λ (z : ℕ) (l : List ℕ). z ∷ l) (eqb→eq x y (and_left (eqb x y) (same a b) t)) (same_only a b (and_right (eqb x y) (same a b) t))
 
 -- after the same bytes the rest decides
-pub same-append : (front a b : List ℕ) → same (front ++ a) (front ++ b) ≡ same a b
-same-append [] a b = refl
-same-append (x ∷ front) a b = ap (λ (t : Bool). t && same (front ++ a) (front ++ b)) (eq-eqb x x refl) ∙ same-append front a b
+pub same_append : (front a b : List ℕ) → same (front ++ a) (front ++ b) ≡ same a b
+same_append [] a b = refl
+same_append (x ∷ front) a b = ap (λ (t : Bool). t && same (front ++ a) (front ++ b)) (eq-eqb x x refl) ∙ same_append front a b

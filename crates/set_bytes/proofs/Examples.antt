@@ -1,23 +1,23 @@
 -- The examples of sets in bytes, by computation.
 -- Assumes nothing.
 use mathlib.Core.Path.{refl}
-use Rattle.set_bytes.specs.SetBytes.{setIn, is_set, readAnswer}
+use Rattle.set_bytes.specs.SetBytes.{set_in, is_set, read_answer}
 use Rattle.set_bytes.specs.Examples.{Written, Read, Other}
 
 pub written : Written
-written = record { voiced-bytes = refl; unvoiced-bytes = refl }
+written = record { voiced_to_bytes = refl; unvoiced_to_bytes = refl }
 
 pub read : Read
-unfolding setIn is_set readAnswer
-read = record { voiced-set = refl; unvoiced-set = refl; out_of_range = refl }
+unfolding set_in is_set read_answer
+read = record { voiced_set = refl; unvoiced_set = refl; out_of_range = refl }
 
 pub other : Other
-unfolding setIn is_set readAnswer
+unfolding set_in is_set read_answer
 other = record {
-  first-byte-two = refl;
-  unvoiced-with-pitch = refl;
-  unvoiced-with-flag = refl;
-  ten-bytes = refl;
+  first_byte_two = refl;
+  unvoiced_with_pitch = refl;
+  unvoiced_with_flag = refl;
+  ten_bytes = refl;
   twelve_bytes = refl;
   no_bytes = refl;
 }

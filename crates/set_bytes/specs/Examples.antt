@@ -2,7 +2,7 @@
 use Rattle.std.specs.Prelude.{ℕ, ◌≡◌, List, [], ◌∷◌}
 use Rattle.sets.specs.declared.ParameterSet.{ParameterSet}
 use Rattle.sets.specs.declared.ParameterSet.TheVariants.{Unvoiced, Voiced}
-use Rattle.set_bytes.specs.SetBytes.{bytes_of, readAnswer}
+use Rattle.set_bytes.specs.SetBytes.{bytes_of, read_answer}
 use Rattle.set_bytes.specs.declared.SetAnswer.TheVariants.{Set, Refused}
 
 -- each index has another value, so that none can stand for another
@@ -12,26 +12,26 @@ voiced = Voiced (record { l1 = 87; l2 = 41; l3 = 23; l4 = 10; g2 = 17; g1 = 5 })
 abbrev pub unvoiced : ParameterSet
 unvoiced = Unvoiced (record { l1 = 90; l2 = 41; l3 = 23; l4 = 10; g2 = 11; g1 = 5 })
 
-abbrev pub voicedBytes : List ℕ
-voicedBytes = 1 ∷ 42 ∷ 87 ∷ 41 ∷ 23 ∷ 10 ∷ 17 ∷ 5 ∷ 12 ∷ 200 ∷ 1 ∷ []
+abbrev pub voiced_bytes : List ℕ
+voiced_bytes = 1 ∷ 42 ∷ 87 ∷ 41 ∷ 23 ∷ 10 ∷ 17 ∷ 5 ∷ 12 ∷ 200 ∷ 1 ∷ []
 
-abbrev pub unvoicedBytes : List ℕ
-unvoicedBytes = 0 ∷ 0 ∷ 90 ∷ 41 ∷ 23 ∷ 10 ∷ 11 ∷ 5 ∷ 0 ∷ 0 ∷ 0 ∷ []
+abbrev pub unvoiced_bytes : List ℕ
+unvoiced_bytes = 0 ∷ 0 ∷ 90 ∷ 41 ∷ 23 ∷ 10 ∷ 11 ∷ 5 ∷ 0 ∷ 0 ∷ 0 ∷ []
 
 pub record Written : Type 0 where
-  pub voiced-bytes : bytes_of voiced ≡ voicedBytes
-  pub unvoiced-bytes : bytes_of unvoiced ≡ unvoicedBytes
+  pub voiced_to_bytes : bytes_of voiced ≡ voiced_bytes
+  pub unvoiced_to_bytes : bytes_of unvoiced ≡ unvoiced_bytes
 
 pub record Read : Type 0 where
-  pub voiced-set : readAnswer voicedBytes ≡ Set voiced
-  pub unvoiced-set : readAnswer unvoicedBytes ≡ Set unvoiced
-  pub out_of_range : readAnswer (0 ∷ 0 ∷ 255 ∷ 41 ∷ 23 ∷ 10 ∷ 11 ∷ 5 ∷ 0 ∷ 0 ∷ 0 ∷ [])
+  pub voiced_set : read_answer voiced_bytes ≡ Set voiced
+  pub unvoiced_set : read_answer unvoiced_bytes ≡ Set unvoiced
+  pub out_of_range : read_answer (0 ∷ 0 ∷ 255 ∷ 41 ∷ 23 ∷ 10 ∷ 11 ∷ 5 ∷ 0 ∷ 0 ∷ 0 ∷ [])
       ≡ Set (Unvoiced (record { l1 = 255; l2 = 41; l3 = 23; l4 = 10; g2 = 11; g1 = 5 }))
 
 pub record Other : Type 0 where
-  pub first-byte-two : readAnswer (2 ∷ 42 ∷ 87 ∷ 41 ∷ 23 ∷ 10 ∷ 17 ∷ 5 ∷ 12 ∷ 200 ∷ 1 ∷ []) ≡ Refused 5
-  pub unvoiced-with-pitch : readAnswer (0 ∷ 42 ∷ 90 ∷ 41 ∷ 23 ∷ 10 ∷ 11 ∷ 5 ∷ 0 ∷ 0 ∷ 0 ∷ []) ≡ Refused 5
-  pub unvoiced-with-flag : readAnswer (0 ∷ 0 ∷ 90 ∷ 41 ∷ 23 ∷ 10 ∷ 11 ∷ 5 ∷ 0 ∷ 0 ∷ 1 ∷ []) ≡ Refused 5
-  pub ten-bytes : readAnswer (0 ∷ 0 ∷ 90 ∷ 41 ∷ 23 ∷ 10 ∷ 11 ∷ 5 ∷ 0 ∷ 0 ∷ []) ≡ Refused 5
-  pub twelve_bytes : readAnswer (0 ∷ 0 ∷ 90 ∷ 41 ∷ 23 ∷ 10 ∷ 11 ∷ 5 ∷ 0 ∷ 0 ∷ 0 ∷ 0 ∷ []) ≡ Refused 5
-  pub no_bytes : readAnswer [] ≡ Refused 5
+  pub first_byte_two : read_answer (2 ∷ 42 ∷ 87 ∷ 41 ∷ 23 ∷ 10 ∷ 17 ∷ 5 ∷ 12 ∷ 200 ∷ 1 ∷ []) ≡ Refused 5
+  pub unvoiced_with_pitch : read_answer (0 ∷ 42 ∷ 90 ∷ 41 ∷ 23 ∷ 10 ∷ 11 ∷ 5 ∷ 0 ∷ 0 ∷ 0 ∷ []) ≡ Refused 5
+  pub unvoiced_with_flag : read_answer (0 ∷ 0 ∷ 90 ∷ 41 ∷ 23 ∷ 10 ∷ 11 ∷ 5 ∷ 0 ∷ 0 ∷ 1 ∷ []) ≡ Refused 5
+  pub ten_bytes : read_answer (0 ∷ 0 ∷ 90 ∷ 41 ∷ 23 ∷ 10 ∷ 11 ∷ 5 ∷ 0 ∷ 0 ∷ []) ≡ Refused 5
+  pub twelve_bytes : read_answer (0 ∷ 0 ∷ 90 ∷ 41 ∷ 23 ∷ 10 ∷ 11 ∷ 5 ∷ 0 ∷ 0 ∷ 0 ∷ 0 ∷ []) ≡ Refused 5
+  pub no_bytes : read_answer [] ≡ Refused 5

@@ -1,6 +1,6 @@
 -- Document 02, T-14: the eleven bytes of a set, and the set that bytes are those of. What ranges its indices have is asked elsewhere.
 use Rattle.std.specs.Prelude.{ℕ, zero, suc, Bool, true, false, not, ◌&&◌, cond, List, [], ◌∷◌, eqb, get_or}
-use Rattle.bits.specs.Refusals.{firstRefusal}
+use Rattle.bits.specs.Refusals.{first_refusal}
 use Rattle.sets.specs.declared.Indices.{Indices}
 use Rattle.sets.specs.declared.Voicing.{Voicing}
 use Rattle.sets.specs.declared.ParameterSet.{ParameterSet}
@@ -14,8 +14,8 @@ bytes_of (Unvoiced x) = 0 ∷ 0 ∷ x.l1 ∷ x.l2 ∷ x.l3 ∷ x.l4 ∷ x.g2 ∷
 bytes_of (Voiced x v) = 1 ∷ v.pitch ∷ x.l1 ∷ x.l2 ∷ x.l3 ∷ x.l4 ∷ x.g2 ∷ x.g1 ∷ v.bandpass ∷ v.fourier ∷ v.aperiodic ∷ []
 
 -- the set that the bytes would be those of, each index taken from its place
-abbrev pub readIndices : List ℕ → Indices
-readIndices bytes = record {
+abbrev pub read_indices : List ℕ → Indices
+read_indices bytes = record {
   l1 = get_or bytes 2 0;
   l2 = get_or bytes 3 0;
   l3 = get_or bytes 4 0;
@@ -24,16 +24,16 @@ readIndices bytes = record {
   g1 = get_or bytes 7 0;
 }
 
-abbrev pub readVoicing : List ℕ → Voicing
-readVoicing bytes = record {
+abbrev pub read_voicing : List ℕ → Voicing
+read_voicing bytes = record {
   pitch = get_or bytes 1 0;
   bandpass = get_or bytes 8 0;
   fourier = get_or bytes 9 0;
   aperiodic = get_or bytes 10 0;
 }
 
-unfoldable pub setIn : List ℕ → ParameterSet
-setIn bytes = cond (eqb (get_or bytes 0 0) 1) (Voiced (readIndices bytes) (readVoicing bytes)) (Unvoiced (readIndices bytes))
+unfoldable pub set_in : List ℕ → ParameterSet
+set_in bytes = cond (eqb (get_or bytes 0 0) 1) (Voiced (read_indices bytes) (read_voicing bytes)) (Unvoiced (read_indices bytes))
 
 -- whether two lists of bytes are the same
 abbrev pub same : List ℕ → List ℕ → Bool
@@ -44,16 +44,16 @@ same (x ∷ xs) (y ∷ ys) = eqb x y && same xs ys
 
 -- the bytes are those of a set: then of the one that they would be those of
 unfoldable pub is_set : List ℕ → Bool
-is_set bytes = same bytes (bytes_of (setIn bytes))
+is_set bytes = same bytes (bytes_of (set_in bytes))
 
 -- the refusal, 0 is none: 5 for any other form
-abbrev pub readRefusal : List ℕ → ℕ
-readRefusal bytes = firstRefusal ((not (is_set bytes), 5) ∷ [])
+abbrev pub read_refusal : List ℕ → ℕ
+read_refusal bytes = first_refusal ((not (is_set bytes), 5) ∷ [])
 
 -- the answer: the set, or the refusal
-abbrev pub setUnless : ℕ → ParameterSet → SetAnswer
-setUnless zero set = Set set
-setUnless (suc n) set = Refused (suc n)
+abbrev pub set_unless : ℕ → ParameterSet → SetAnswer
+set_unless zero set = Set set
+set_unless (suc n) set = Refused (suc n)
 
-unfoldable pub readAnswer : List ℕ → SetAnswer
-readAnswer bytes = setUnless (readRefusal bytes) (setIn bytes)
+unfoldable pub read_answer : List ℕ → SetAnswer
+read_answer bytes = set_unless (read_refusal bytes) (set_in bytes)

@@ -1,7 +1,7 @@
 // The set in bytes.
 ghost use Rattle.std.specs.Prelude.{◌≡◌, length};
 ghost use Rattle.sets.specs.declared.ParameterSet.TheVariants.{Unvoiced};
-ghost use Rattle.set_bytes.specs.SetBytes.{same, bytes_of, readIndices, readVoicing, readAnswer};
+ghost use Rattle.set_bytes.specs.SetBytes.{same, bytes_of, read_indices, read_voicing, read_answer};
 
 use crate::SetAnswer;
 use sets::{Indices, ParameterSet, Voicing};
@@ -9,7 +9,7 @@ use sets::{Indices, ParameterSet, Voicing};
 // Bytes 2 to 7, which every set has.
 fn read_indices(bytes: &[u8]) -> Indices
     requires { length bytes.now ≡ 11 }
-    ensures { result ≡ readIndices bytes.now }
+    ensures { result ≡ read_indices bytes.now }
 {
     Indices {
         l1: bytes[2],
@@ -24,7 +24,7 @@ fn read_indices(bytes: &[u8]) -> Indices
 // Bytes 1 and 8 to 10, which only a voiced set has.
 fn read_voicing(bytes: &[u8]) -> Voicing
     requires { length bytes.now ≡ 11 }
-    ensures { result ≡ readVoicing bytes.now }
+    ensures { result ≡ read_voicing bytes.now }
 {
     Voicing {
         pitch: bytes[1],
@@ -37,14 +37,14 @@ fn read_voicing(bytes: &[u8]) -> Voicing
 // Whether eleven bytes are those of an unvoiced set: 0 in the first and in all that it lacks.
 fn is_unvoiced(bytes: &[u8]) -> bool
     requires { length bytes.now ≡ 11 }
-    ensures { result ≡ same bytes.now (bytes_of (Unvoiced (readIndices bytes.now))) }
+    ensures { result ≡ same bytes.now (bytes_of (Unvoiced (read_indices bytes.now))) }
 {
     (bytes[0] == 0) & (bytes[1] == 0) & (bytes[8] == 0) & (bytes[9] == 0) & (bytes[10] == 0)
 }
 
 // The set that bytes are those of. Refused: 5, bytes that are not those of a set.
 pub fn read(bytes: &[u8]) -> SetAnswer
-    ensures { result ≡ readAnswer bytes.now }
+    ensures { result ≡ read_answer bytes.now }
 {
     if bytes.len() != 11 {
         return SetAnswer::Refused(5);

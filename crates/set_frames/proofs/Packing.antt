@@ -8,21 +8,21 @@ use native.Mathlib.Omega.{arith}
 use lib.ListN.{length, take, drop, length-drop, take-append-drop}
 use lib.Seq.{drop-drop}
 use borrow.Rule.Slice.PartMut.{mid_of, put_mid}
-use Rattle.bits.specs.Refusals.{firstRefusal}
+use Rattle.bits.specs.Refusals.{first_refusal}
 use Rattle.order.specs.Order.{is_order}
 use Rattle.sets.specs.Sets.{sendable}
 use Rattle.sets.specs.declared.ParameterSet.{ParameterSet}
 use Rattle.frame.specs.Layout.{frame}
-use Rattle.frame.specs.Packing.{setRefusal, packAnswer, packWrites}
+use Rattle.frame.specs.Packing.{set_refusal, pack_answer, pack_writes}
 use Rattle.frame.specs.declared.PackAnswer.{PackAnswer}
 use Rattle.frame.specs.declared.PackAnswer.TheVariants.{Packed, Refused}
-use Rattle.frame.proofs.Answers.{tested-owes}
-use Rattle.set_bytes.specs.SetBytes.{setIn, readAnswer}
+use Rattle.frame.proofs.Answers.{tested_owes}
+use Rattle.set_bytes.specs.SetBytes.{set_in, read_answer}
 use Rattle.set_bytes.specs.declared.SetAnswer.{SetAnswer}
 use Rattle.set_bytes.specs.declared.SetAnswer.TheVariants as form
-use Rattle.set_frames.specs.Sending.{bytes_at, taken, frame_of, bytesRefusal, setAnswer, setWrites}
-use Rattle.set_bytes.proofs.SetBytes.{answer-taken, answer-refused}
-use Rattle.set_frames.proofs.Tails.{tail-is, tail-back}
+use Rattle.set_frames.specs.Sending.{bytes_at, taken, frame_of, bytes_refusal, set_answer, set_writes}
+use Rattle.set_bytes.proofs.SetBytes.{answer_taken, answer_refused}
+use Rattle.set_frames.proofs.Tails.{tail_is, tail_back}
 
 module _ (ord input : List ℕ) (sync : Bool) (k : ℕ) (out : List ℕ) where
   abbrev bytes : List ℕ
@@ -30,55 +30,55 @@ module _ (ord input : List ℕ) (sync : Bool) (k : ℕ) (out : List ℕ) where
 
   -- what a call answers and leaves
   abbrev Owed : PackAnswer → List ℕ → Type 0
-  Owed answer after = (answer ≡ setAnswer ord bytes sync) × (after ≡ setWrites ord bytes sync k out)
+  Owed answer after = (answer ≡ set_answer ord bytes sync) × (after ≡ set_writes ord bytes sync k out)
 
   -- by whether the bytes are taken
-  pub taken-owes : (b : Bool) → taken ord bytes ≡ b
-      → Owed (cond b (Packed (not sync)) (Refused (bytesRefusal ord bytes))) (cond b (take (7 * k) out ++ (frame_of ord bytes sync ++ drop (7 * suc k) out)) out)
-  unfolding setAnswer setWrites
-  taken-owes b e = (
-    ap (λ (t : Bool). cond t (Packed (not sync)) (Refused (bytesRefusal ord bytes))) (sym e),
+  pub taken_owes : (b : Bool) → taken ord bytes ≡ b
+      → Owed (cond b (Packed (not sync)) (Refused (bytes_refusal ord bytes))) (cond b (take (7 * k) out ++ (frame_of ord bytes sync ++ drop (7 * suc k) out)) out)
+  unfolding set_answer set_writes
+  taken_owes b e = (
+    ap (λ (t : Bool). cond t (Packed (not sync)) (Refused (bytes_refusal ord bytes))) (sym e),
     ap (λ (t : Bool). cond t (take (7 * k) out ++ (frame_of ord bytes sync ++ drop (7 * suc k) out)) out) (sym e),
   )
 
   -- the bytes that are read: from 11 k on up to 11 k + 11
-  module _ (x : SetAnswer) (r : x ≡ readAnswer (take (11 * k + 11 - 11 * k) (drop (11 * k) input))) where
-    read_is : readAnswer bytes ≡ x
+  module _ (x : SetAnswer) (r : x ≡ read_answer (take (11 * k + 11 - 11 * k) (drop (11 * k) input))) where
+    read_is : read_answer bytes ≡ x
     read_is =
         let n : 11 * k + 11 - 11 * k ≡ 11 = omega arith in
-        sym (r ∙ ap (λ (m : ℕ). readAnswer (take m (drop (11 * k) input))) n)
+        sym (r ∙ ap (λ (m : ℕ). read_answer (take m (drop (11 * k) input))) n)
 
     -- they are those of no set
-    pub form-owes : (n : ℕ) → x ≡ form.Refused n → Owed (Refused 5) out
+    pub form_owes : (n : ℕ) → x ≡ form.Refused n → Owed (Refused 5) out
     unfolding taken
-    form-owes n e =
-        let none = answer-refused bytes n (read_is ∙ e) in
-        let o = taken-owes false (ap (λ (b : Bool). b && is_order ord && sendable (setIn bytes)) none) in
-        (ap (λ (b : Bool). Refused (cond b (setRefusal ord) 5)) (sym none) ∙ o.0, o.1)
+    form_owes n e =
+        let none = answer_refused bytes n (read_is ∙ e) in
+        let o = taken_owes false (ap (λ (b : Bool). b && is_order ord && sendable (set_in bytes)) none) in
+        (ap (λ (b : Bool). Refused (cond b (set_refusal ord) 5)) (sym none) ∙ o.0, o.1)
 
     -- they are those of a set, which is packed into the tail
     module _ (set : ParameterSet) (e : x ≡ form.Set set) (room : 7 * suc k ≤ length out) (answer : PackAnswer) (ys : List ℕ)
-        (p : let lent = mid_of (7 * k) (length out - 7 * k) out in (answer ≡ packAnswer ord set sync (length lent)) × (ys ≡ packWrites ord set sync lent)) where
+        (p : let lent = mid_of (7 * k) (length out - 7 * k) out in (answer ≡ pack_answer ord set sync (length lent)) × (ys ≡ pack_writes ord set sync lent)) where
       abbrev tail : List ℕ
       tail = drop (7 * k) out
 
-      tail-room : 7 ≤ length tail
-      tail-room = omega (arith, length-drop (7 * k) out)
+      tail_room : 7 ≤ length tail
+      tail_room = omega (arith, length-drop (7 * k) out)
 
-      set_is : setIn bytes ≡ set
-      set_is = (answer-taken bytes set (read_is ∙ e)).1
+      set_is : set_in bytes ≡ set
+      set_is = (answer_taken bytes set (read_is ∙ e)).1
 
       taken_is : taken ord bytes ≡ is_order ord && sendable set
       unfolding taken
       taken_is =
-          ap (λ (f : Bool). f && is_order ord && sendable (setIn bytes)) (answer-taken bytes set (read_is ∙ e)).0
+          ap (λ (f : Bool). f && is_order ord && sendable (set_in bytes)) (answer_taken bytes set (read_is ∙ e)).0
           ∙ ap (λ (s : ParameterSet). is_order ord && sendable s) set_is
 
-      answer-is : answer ≡ packAnswer ord set sync (length tail)
-      answer-is = p.0 ∙ ap (λ (l : List ℕ). packAnswer ord set sync (length l)) (tail-is (7 * k) out)
+      answer_is : answer ≡ pack_answer ord set sync (length tail)
+      answer_is = p.0 ∙ ap (λ (l : List ℕ). pack_answer ord set sync (length l)) (tail_is (7 * k) out)
 
-      after_is : put_mid (7 * k) (length out - 7 * k) out ys ≡ take (7 * k) out ++ packWrites ord set sync tail
-      after_is = tail-back (7 * k) out ys ∙ ap (λ (l : List ℕ). take (7 * k) out ++ l) (p.1 ∙ ap (packWrites ord set sync) (tail-is (7 * k) out))
+      after_is : put_mid (7 * k) (length out - 7 * k) out ys ≡ take (7 * k) out ++ pack_writes ord set sync tail
+      after_is = tail_back (7 * k) out ys ∙ ap (λ (l : List ℕ). take (7 * k) out ++ l) (p.1 ∙ ap (pack_writes ord set sync) (tail_is (7 * k) out))
 
       -- frame k and what lies past it
       frame_is : frame ord set sync ++ drop 7 tail ≡ frame_of ord bytes sync ++ drop (7 * suc k) out
@@ -88,30 +88,30 @@ module _ (ord input : List ℕ) (sync : Bool) (k : ℕ) (out : List ℕ) where
           ap₂ (λ (s : ParameterSet) (l : List ℕ). frame ord s sync ++ l) (sym set_is) rest
 
       -- what refuses it, by whether the list is an order
-      number_is : (a : Bool) → is_order ord ≡ a → firstRefusal ((not a, 10) ∷ (true, 5) ∷ []) ≡ bytesRefusal ord bytes
+      number_is : (a : Bool) → is_order ord ≡ a → first_refusal ((not a, 10) ∷ (true, 5) ∷ []) ≡ bytes_refusal ord bytes
       number_is a o =
-          let found = (answer-taken bytes set (read_is ∙ e)).0 in
-          λ i. cond (sym found i) (firstRefusal ((not (sym o i), 10) ∷ (true, 5) ∷ [])) 5
+          let found = (answer_taken bytes set (read_is ∙ e)).0 in
+          λ i. cond (sym found i) (first_refusal ((not (sym o i), 10) ∷ (true, 5) ∷ [])) 5
 
       abbrev after : List ℕ
       after = put_mid (7 * k) (length out - 7 * k) out ys
 
       -- it is refused
-      refused-owes : (n : ℕ) → taken ord bytes ≡ false → n ≡ bytesRefusal ord bytes
-          → (Refused n ≡ packAnswer ord set sync (length tail)) × (tail ≡ packWrites ord set sync tail) → Owed answer after
-      refused-owes n t m q =
-          let o = taken-owes false t in (
-            answer-is ∙ sym q.0 ∙ ap (λ (n : ℕ). Refused n) m ∙ o.0,
+      refused_owes : (n : ℕ) → taken ord bytes ≡ false → n ≡ bytes_refusal ord bytes
+          → (Refused n ≡ pack_answer ord set sync (length tail)) × (tail ≡ pack_writes ord set sync tail) → Owed answer after
+      refused_owes n t m q =
+          let o = taken_owes false t in (
+            answer_is ∙ sym q.0 ∙ ap (λ (n : ℕ). Refused n) m ∙ o.0,
             after_is ∙ ap (λ (l : List ℕ). take (7 * k) out ++ l) (sym q.1) ∙ take-append-drop (7 * k) out ∙ o.1,
           )
 
-      pub pack-owes : Owed answer after
-      pack-owes = go (is_order ord) (sendable set) refl refl
+      pub pack_owes : Owed answer after
+      pack_owes = go (is_order ord) (sendable set) refl refl
         where
           go : (a b : Bool) → is_order ord ≡ a → sendable set ≡ b → Owed answer after
           go true true f t =
-              let o = taken-owes true (taken_is ∙ λ i. f i && t i) in
-              let q = tested-owes ord set sync tail tail-room true true f t in
-              (answer-is ∙ sym q.0 ∙ o.0, after_is ∙ ap (λ (l : List ℕ). take (7 * k) out ++ l) (sym q.1 ∙ frame_is) ∙ o.1)
-          go true false f t = refused-owes 5 (taken_is ∙ λ i. f i && t i) (number_is true f) (tested-owes ord set sync tail tail-room true false f t)
-          go false b f t = refused-owes 10 (taken_is ∙ λ i. f i && t i) (number_is false f) (tested-owes ord set sync tail tail-room false b f t)
+              let o = taken_owes true (taken_is ∙ λ i. f i && t i) in
+              let q = tested_owes ord set sync tail tail_room true true f t in
+              (answer_is ∙ sym q.0 ∙ o.0, after_is ∙ ap (λ (l : List ℕ). take (7 * k) out ++ l) (sym q.1 ∙ frame_is) ∙ o.1)
+          go true false f t = refused_owes 5 (taken_is ∙ λ i. f i && t i) (number_is true f) (tested_owes ord set sync tail tail_room true false f t)
+          go false b f t = refused_owes 10 (taken_is ∙ λ i. f i && t i) (number_is false f) (tested_owes ord set sync tail tail_room false b f t)

@@ -6,31 +6,31 @@ use Prim.Native.Nat.{ℕ, ◌*◌, ◌/◌, ◌≤◌}
 use native.Mathlib.Omega.{arith}
 use lib.ListN.{length, drop, length-append}
 use borrow.Author.Tests.{le-ltb}
-use Rattle.bits.specs.Lists.{writtenUnless}
-use Rattle.set_frames.specs.Sending.{setsIn, sent, framesRefusal, framesUnless, framesAnswer, framesWrites}
+use Rattle.bits.specs.Lists.{written_unless}
+use Rattle.set_frames.specs.Sending.{sets_in, sent, frames_refusal, frames_unless, frames_answer, frames_writes}
 use Rattle.set_frames.specs.declared.FramesAnswer.TheVariants.{Packed, Refused}
 
-module _ (ord bytes out : List ℕ) (h : 7 * setsIn bytes ≤ length out) where
-  roomy : framesRefusal bytes (length out) ≡ 0
-  roomy = rw (le-ltb (length out / 7) (setsIn bytes) (omega arith)) refl
+module _ (ord bytes out : List ℕ) (h : 7 * sets_in bytes ≤ length out) where
+  roomy : frames_refusal bytes (length out) ≡ 0
+  roomy = rw (le-ltb (length out / 7) (sets_in bytes) (omega arith)) refl
 
   -- what is answered and left
-  answered : framesAnswer ord bytes (length out) ≡ Packed (length (sent ord bytes))
-  unfolding framesAnswer
-  answered = ap (λ (n : ℕ). framesUnless n (length (sent ord bytes))) roomy
+  answered : frames_answer ord bytes (length out) ≡ Packed (length (sent ord bytes))
+  unfolding frames_answer
+  answered = ap (λ (n : ℕ). frames_unless n (length (sent ord bytes))) roomy
 
-  written : framesWrites ord bytes out ≡ sent ord bytes ++ drop (length (sent ord bytes)) out
-  unfolding framesWrites
-  written = ap (λ (n : ℕ). writtenUnless n (length (sent ord bytes)) (sent ord bytes) out) roomy
+  written : frames_writes ord bytes out ≡ sent ord bytes ++ drop (length (sent ord bytes)) out
+  unfolding frames_writes
+  written = ap (λ (n : ℕ). written_unless n (length (sent ord bytes)) (sent ord bytes) out) roomy
 
   -- an end that is answered is that of the frames
-  pub packed-is : (end : ℕ) (after : List ℕ) → framesAnswer ord bytes (length out) ≡ Packed end → after ≡ framesWrites ord bytes out
+  pub packed_is : (end : ℕ) (after : List ℕ) → frames_answer ord bytes (length out) ≡ Packed end → after ≡ frames_writes ord bytes out
       → (end ≡ length (sent ord bytes)) × (end ≤ length after) × (after ≡ sent ord bytes ++ drop end out)
-  packed-is end after e w =
+  packed_is end after e w =
       let same : end ≡ length (sent ord bytes) = cc (answered, e) in
       let all : after ≡ sent ord bytes ++ drop end out = w ∙ written ∙ ap (λ (n : ℕ). sent ord bytes ++ drop n out) (sym same) in
       (same, omega (arith, same, ap length all ∙ length-append (sent ord bytes) (drop end out)), all)
 
   -- nothing is refused
-  pub not-refused : (n : ℕ) → framesAnswer ord bytes (length out) ≡ Refused n → ⊥
-  not-refused n e = let z : ◌≡◌ {A = ℕ} 0 1 = cc (answered, e) in omega arith
+  pub not_refused : (n : ℕ) → frames_answer ord bytes (length out) ≡ Refused n → ⊥
+  not_refused n e = let z : ◌≡◌ {A = ℕ} 0 1 = cc (answered, e) in omega arith

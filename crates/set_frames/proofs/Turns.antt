@@ -7,18 +7,18 @@ use Prim.Native.Nat.{ℕ, suc, ◌+◌, ◌-◌, ◌*◌, ◌≤◌, ◌<◌}
 use native.Mathlib.Omega.{arith}
 use lib.ListN.{length, take, drop, length-append, length-drop, take-append-drop}
 use lib.Seq.{length-take-le, take_at, drop_at, drop-drop}
-use Rattle.order.proofs.Frames.{frame-length}
-use Rattle.frame.specs.Layout.{logicalOf}
+use Rattle.order.proofs.Frames.{frame_length}
+use Rattle.frame.specs.Layout.{logical_of}
 use Rattle.frame.specs.declared.PackAnswer.{PackAnswer}
 use Rattle.frame.specs.declared.PackAnswer.TheVariants.{Packed, Refused}
-use Rattle.set_bytes.specs.SetBytes.{setIn}
-use Rattle.set_frames.specs.Sending.{setsIn, bytes_at, taken, frame_of, sentFrom, sent, bytesRefusal, setAnswer, setWrites}
-use Rattle.set_frames.proofs.Packing.{taken-owes}
+use Rattle.set_bytes.specs.SetBytes.{set_in}
+use Rattle.set_frames.specs.Sending.{sets_in, bytes_at, taken, frame_of, sent_from, sent, bytes_refusal, set_answer, set_writes}
+use Rattle.set_frames.proofs.Packing.{taken_owes}
 
 -- after k frames: they stand in front, the sets from k on are to come, and the rest of the output is as it was
 abbrev pub SoFar : List ℕ → List ℕ → List ℕ → Bool → ℕ → List ℕ → Type 0
 SoFar ord bytes out₀ sync k out =
-    (length out ≡ length out₀) × (take (7 * k) out ++ sentFrom ord bytes sync k (setsIn bytes - k) ≡ sent ord bytes) × (drop (7 * k) out ≡ drop (7 * k) out₀)
+    (length out ≡ length out₀) × (take (7 * k) out ++ sent_from ord bytes sync k (sets_in bytes - k) ≡ sent ord bytes) × (drop (7 * k) out ≡ drop (7 * k) out₀)
 
 -- what is owed where the frames end
 abbrev pub Owed : List ℕ → List ℕ → List ℕ → ℕ → List ℕ → Type 0
@@ -26,46 +26,46 @@ Owed ord bytes out₀ r out = (r ≡ length (sent ord bytes)) × ((r ≤ length 
 
 module _ (ord bytes out₀ : List ℕ) (sync : Bool) (k : ℕ) (out : List ℕ) (s : SoFar ord bytes out₀ sync k out) (fits : 7 * k ≤ length out) where
   -- nothing is to come
-  end-owes : sentFrom ord bytes sync k (setsIn bytes - k) ≡ [] → Owed ord bytes out₀ (7 * k) out
-  end-owes e =
+  end_owes : sent_from ord bytes sync k (sets_in bytes - k) ≡ [] → Owed ord bytes out₀ (7 * k) out
+  end_owes e =
       let front : take (7 * k) out ≡ sent ord bytes = sym (append-nil (take (7 * k) out)) ∙ ap (λ (l : List ℕ). take (7 * k) out ++ l) (sym e) ∙ s.1 in
       let n = sym (length-take-le (7 * k) out fits) in
       (n ∙ ap length front, (fits, sym (take-append-drop (7 * k) out) ∙ (λ i. front i ++ s.2 i)))
 
   -- after the last set
-  pub last-owes : setsIn bytes ≤ k → Owed ord bytes out₀ (7 * k) out
-  unfolding sentFrom
-  last-owes h =
-      let n : setsIn bytes - k ≡ 0 = omega arith in
-      end-owes (ap (sentFrom ord bytes sync k) n)
+  pub last_owes : sets_in bytes ≤ k → Owed ord bytes out₀ (7 * k) out
+  unfolding sent_from
+  last_owes h =
+      let n : sets_in bytes - k ≡ 0 = omega arith in
+      end_owes (ap (sent_from ord bytes sync k) n)
 
-  module _ (more : k < setsIn bytes) where
+  module _ (more : k < sets_in bytes) where
     -- the sets after set k, and what is to come by whether the bytes of set k are taken
     abbrev left : ℕ
-    left = setsIn bytes - suc k
+    left = sets_in bytes - suc k
 
     abbrev set : List ℕ
     set = bytes_at bytes k
 
-    rest-is : (b : Bool) → taken ord set ≡ b → sentFrom ord bytes sync k (setsIn bytes - k) ≡ cond b (frame_of ord set sync ++ sentFrom ord bytes (not sync) (suc k) left) []
-    unfolding sentFrom
-    rest-is b e =
-        let n : setsIn bytes - k ≡ suc left = omega arith in
-        ap (sentFrom ord bytes sync k) n ∙ ap (λ (b : Bool). cond b (frame_of ord set sync ++ sentFrom ord bytes (not sync) (suc k) left) []) e
+    rest_is : (b : Bool) → taken ord set ≡ b → sent_from ord bytes sync k (sets_in bytes - k) ≡ cond b (frame_of ord set sync ++ sent_from ord bytes (not sync) (suc k) left) []
+    unfolding sent_from
+    rest_is b e =
+        let n : sets_in bytes - k ≡ suc left = omega arith in
+        ap (sent_from ord bytes sync k) n ∙ ap (λ (b : Bool). cond b (frame_of ord set sync ++ sent_from ord bytes (not sync) (suc k) left) []) e
 
     -- a frame more
-    frames-more : taken ord set ≡ true → (after : List ℕ) → after ≡ take (7 * k) out ++ (frame_of ord set sync ++ drop (7 * suc k) out)
+    frames_more : taken ord set ≡ true → (after : List ℕ) → after ≡ take (7 * k) out ++ (frame_of ord set sync ++ drop (7 * suc k) out)
         → 7 * suc k ≤ length out → SoFar ord bytes out₀ (not sync) (suc k) after
-    frames-more e after w room =
+    frames_more e after w room =
         let p = take (7 * k) out in
         let f = frame_of ord set sync in
         let rest = drop (7 * suc k) out in
-        let next = sentFrom ord bytes (not sync) (suc k) left in
+        let next = sent_from ord bytes (not sync) (suc k) left in
         let split : after ≡ (p ++ f) ++ rest = w ∙ sym (append_assoc p f rest) in
-        let seven : length f ≡ 7 = frame-length ord (logicalOf (setIn set) sync) in
+        let seven : length f ≡ 7 = frame_length ord (logical_of (set_in set) sync) in
         let n : length (p ++ f) ≡ 7 * suc k = omega (arith, length-append p f, length-take-le (7 * k) out fits, seven) in
         let front : take (7 * suc k) after ≡ p ++ f = ap (take (7 * suc k)) split ∙ take_at (p ++ f) rest (7 * suc k) n in
-        let all : (p ++ f) ++ next ≡ sent ord bytes = append_assoc p f next ∙ ap (λ (l : List ℕ). p ++ l) (sym (rest-is true e)) ∙ s.1 in
+        let all : (p ++ f) ++ next ≡ sent ord bytes = append_assoc p f next ∙ ap (λ (l : List ℕ). p ++ l) (sym (rest_is true e)) ∙ s.1 in
         let back : drop (7 * suc k) after ≡ rest = ap (drop (7 * suc k)) split ∙ drop_at (p ++ f) rest (7 * suc k) n in
         let m : 7 * suc k ≡ 7 * k + 7 = omega arith in
         let past : (l : List ℕ) → drop (7 * suc k) l ≡ drop 7 (drop (7 * k) l) = λ l. ap (λ (m : ℕ). drop m l) m ∙ sym (drop-drop 7 (7 * k) l) in
@@ -74,29 +74,29 @@ module _ (ord bytes out₀ : List ℕ) (sync : Bool) (k : ℕ) (out : List ℕ) 
         (size, ap (λ (l : List ℕ). l ++ next) front ∙ all, back ∙ kept)
 
   -- one turn: what packing set k answers, and what it leaves
-  module _ (more : k < setsIn bytes) (room : 7 * setsIn bytes ≤ length out₀) (answer : PackAnswer) (after : List ℕ)
-      (p : (answer ≡ setAnswer ord (bytes_at bytes k) sync) × (after ≡ setWrites ord (bytes_at bytes k) sync k out)) where
+  module _ (more : k < sets_in bytes) (room : 7 * sets_in bytes ≤ length out₀) (answer : PackAnswer) (after : List ℕ)
+      (p : (answer ≡ set_answer ord (bytes_at bytes k) sync) × (after ≡ set_writes ord (bytes_at bytes k) sync k out)) where
     -- by whether the bytes are taken
     turn_is : (b : Bool) → taken ord (bytes_at bytes k) ≡ b
-        → (answer ≡ cond b (Packed (not sync)) (Refused (bytesRefusal ord (bytes_at bytes k)))) × (after ≡ cond b (take (7 * k) out ++ (frame_of ord (bytes_at bytes k) sync ++ drop (7 * suc k) out)) out)
-    turn_is b e = let o = taken-owes ord bytes sync k out b e in (p.0 ∙ sym o.0, p.1 ∙ sym o.1)
+        → (answer ≡ cond b (Packed (not sync)) (Refused (bytes_refusal ord (bytes_at bytes k)))) × (after ≡ cond b (take (7 * k) out ++ (frame_of ord (bytes_at bytes k) sync ++ drop (7 * suc k) out)) out)
+    turn_is b e = let o = taken_owes ord bytes sync k out b e in (p.0 ∙ sym o.0, p.1 ∙ sym o.1)
 
     -- a frame is packed: one more stands in front
-    pub packed-owes : (next : Bool) → answer ≡ Packed next → SoFar ord bytes out₀ next (suc k) after
-    packed-owes next e = go (taken ord (bytes_at bytes k)) refl
+    pub packed_owes : (next : Bool) → answer ≡ Packed next → SoFar ord bytes out₀ next (suc k) after
+    packed_owes next e = go (taken ord (bytes_at bytes k)) refl
       where
         go : (b : Bool) → taken ord (bytes_at bytes k) ≡ b → SoFar ord bytes out₀ next (suc k) after
         go true t =
             let same : Packed (not sync) ≡ Packed next = sym (turn_is true t).0 ∙ e in
             let bit : not sync ≡ next = cc in
             let le : 7 * suc k ≤ length out = omega (arith, s.0) in
-            rw bit at (frames-more more t after (turn_is true t).1 le)
-        go false t = let same : Refused (bytesRefusal ord (bytes_at bytes k)) ≡ Packed next = sym (turn_is false t).0 ∙ e in let z : ◌≡◌ {A = ℕ} 0 1 = cc in absurd (omega arith)
+            rw bit at (frames_more more t after (turn_is true t).1 le)
+        go false t = let same : Refused (bytes_refusal ord (bytes_at bytes k)) ≡ Packed next = sym (turn_is false t).0 ∙ e in let z : ◌≡◌ {A = ℕ} 0 1 = cc in absurd (omega arith)
 
     -- set k is refused: the frames end before it
-    pub refused-owes : (n : ℕ) → answer ≡ Refused n → Owed ord bytes out₀ (7 * k) after
-    refused-owes n e = go (taken ord (bytes_at bytes k)) refl
+    pub refused_owes : (n : ℕ) → answer ≡ Refused n → Owed ord bytes out₀ (7 * k) after
+    refused_owes n e = go (taken ord (bytes_at bytes k)) refl
       where
         go : (b : Bool) → taken ord (bytes_at bytes k) ≡ b → Owed ord bytes out₀ (7 * k) after
         go true t = let same : Packed (not sync) ≡ Refused n = sym (turn_is true t).0 ∙ e in let z : ◌≡◌ {A = ℕ} 0 1 = cc in absurd (omega arith)
-        go false t = rw (turn_is false t).1 (end-owes (rest-is more false t))
+        go false t = rw (turn_is false t).1 (end_owes (rest_is more false t))

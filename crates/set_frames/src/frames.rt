@@ -1,6 +1,6 @@
 // The frames of sets in bytes, one after another, in one order.
 ghost use Rattle.std.specs.Prelude.{◌≡◌, ◌++◌, ◌*◌, ◌≤◌, ◌<◌, length, drop};
-ghost use Rattle.set_frames.specs.Sending.{setsIn, bytes_at, setAnswer, setWrites, sent, framesAnswer, framesWrites};
+ghost use Rattle.set_frames.specs.Sending.{sets_in, bytes_at, set_answer, set_writes, sent, frames_answer, frames_writes};
 
 use crate::FramesAnswer;
 use frame::PackAnswer;
@@ -9,9 +9,9 @@ use set_bytes::SetAnswer;
 // The frame of set k to its place in `out`. Refused: 5, bytes that are not those of a set that a sender takes; 10, a list that
 // is no order.
 fn pack_set(bytes: &[u8], k: usize, sync: bool, order: &[u8], out: &mut [u8]) -> PackAnswer
-    requires { (k < setsIn bytes.now) × (7 * setsIn bytes.now ≤ length out.old) }
-    ensures answer { result ≡ setAnswer order.now (bytes_at bytes.now k) sync }
-    ensures written { out.new ≡ setWrites order.now (bytes_at bytes.now k) sync k out.old }
+    requires { (k < sets_in bytes.now) × (7 * sets_in bytes.now ≤ length out.old) }
+    ensures answer { result ≡ set_answer order.now (bytes_at bytes.now k) sync }
+    ensures written { out.new ≡ set_writes order.now (bytes_at bytes.now k) sync k out.old }
 {
     let answer = set_bytes::read(&bytes[11 * k..11 * k + 11]);
     let SetAnswer::Set(set) = answer else {
@@ -23,7 +23,7 @@ fn pack_set(bytes: &[u8], k: usize, sync: bool, order: &[u8], out: &mut [u8]) ->
 // The frames of all whole sets to the front of `out`, by a sender that starts fresh; where they end. A set that
 // is refused ends them.
 fn pack_all(bytes: &[u8], order: &[u8], out: &mut [u8]) -> usize
-    requires { 7 * setsIn bytes.now ≤ length out.old }
+    requires { 7 * sets_in bytes.now ≤ length out.old }
     ensures end { result ≡ length (sent order.now bytes.now) }
     ensures size { result ≤ length out.new }
     ensures written { out.new ≡ sent order.now bytes.now ++ drop result out.old }
@@ -42,8 +42,8 @@ fn pack_all(bytes: &[u8], order: &[u8], out: &mut [u8]) -> usize
 
 // The same, for any output. Refused: 1, an output that has room for fewer frames than there are sets.
 pub fn pack_sets(bytes: &[u8], order: &[u8], out: &mut [u8]) -> FramesAnswer
-    ensures answer { result ≡ framesAnswer order.now bytes.now (length out.old) }
-    ensures written { out.new ≡ framesWrites order.now bytes.now out.old }
+    ensures answer { result ≡ frames_answer order.now bytes.now (length out.old) }
+    ensures written { out.new ≡ frames_writes order.now bytes.now out.old }
 {
     if out.len() / 7 < bytes.len() / 11 {
         return FramesAnswer::Refused(1);

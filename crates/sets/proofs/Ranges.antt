@@ -5,8 +5,8 @@ use mathlib.Core.List.{[], ◌∷◌}
 use Prim.Native.Nat.{◌<◌}
 use lib.Dec.{T, ltb, eqb, ltb→lt}
 use borrow.Author.Tests.{lt-ltb}
-use Rattle.bits.proofs.Tests.{and_left, chain-at}
-use Rattle.sets.specs.Sets.{indicesIn, indicesFit, voicingFits, in_range, sendable}
+use Rattle.bits.proofs.Tests.{and_left, chain_at}
+use Rattle.sets.specs.Sets.{indices_in, indices_fit, voicing_fits, in_range, sendable}
 use Rattle.sets.specs.declared.Indices.{Indices}
 use Rattle.sets.specs.declared.Voicing.{Voicing}
 use Rattle.sets.specs.declared.ParameterSet.{ParameterSet}
@@ -29,9 +29,9 @@ pub record VoicingRanges (v : Voicing) : Type 0 where
   pub aperiodic : v.aperiodic < 2
 
 -- indices that pass the test are in their ranges
-pub index-ranges : (x : Indices) → T (indicesFit x) → IndexRanges x
-index-ranges x t =
-    let at = chain-at (ltb x.l1 128) (ltb x.l2 64 ∷ ltb x.l3 64 ∷ ltb x.l4 64 ∷ ltb x.g2 32 ∷ ltb x.g1 8 ∷ []) t in
+pub index_ranges : (x : Indices) → T (indices_fit x) → IndexRanges x
+index_ranges x t =
+    let at = chain_at (ltb x.l1 128) (ltb x.l2 64 ∷ ltb x.l3 64 ∷ ltb x.l4 64 ∷ ltb x.g2 32 ∷ ltb x.g1 8 ∷ []) t in
     record {
       l1 = ltb→lt x.l1 128 (at 0);
       l2 = ltb→lt x.l2 64 (at 1);
@@ -42,9 +42,9 @@ index-ranges x t =
     }
 
 -- so are those of the voicing
-pub voicing-ranges : (v : Voicing) → T (voicingFits v) → VoicingRanges v
-voicing-ranges v t =
-    let at = chain-at (ltb v.pitch 99) (ltb v.bandpass 16 ∷ ltb v.fourier 256 ∷ ltb v.aperiodic 2 ∷ []) t in
+pub voicing_ranges : (v : Voicing) → T (voicing_fits v) → VoicingRanges v
+voicing_ranges v t =
+    let at = chain_at (ltb v.pitch 99) (ltb v.bandpass 16 ∷ ltb v.fourier 256 ∷ ltb v.aperiodic 2 ∷ []) t in
     record {
       pitch = ltb→lt v.pitch 99 (at 0);
       bandpass = ltb→lt v.bandpass 16 (at 1);
@@ -53,8 +53,8 @@ voicing-ranges v t =
     }
 
 -- indices in their ranges pass the test
-pub index-fits : (x : Indices) → IndexRanges x → T (indicesFit x)
-index-fits x r =
+pub index_fits_lem : (x : Indices) → IndexRanges x → T (indices_fit x)
+index_fits_lem x r =
     rw (
       lt-ltb x.l1 128 r.l1,
       lt-ltb x.l2 64 r.l2,
@@ -65,8 +65,8 @@ index-fits x r =
     ) tt
 
 -- so does the voicing
-pub voicing-fits : (v : Voicing) → VoicingRanges v → T (voicingFits v)
-voicing-fits v r =
+pub voicing_fits_lem : (v : Voicing) → VoicingRanges v → T (voicing_fits v)
+voicing_fits_lem v r =
     rw (
       lt-ltb v.pitch 99 r.pitch,
       lt-ltb v.bandpass 16 r.bandpass,
@@ -75,11 +75,11 @@ voicing-fits v r =
     ) tt
 
 -- what a sender takes is in range
-pub sendable-fits : (set : ParameterSet) → T (sendable set) → T (in_range set)
-sendable-fits (Unvoiced x) t = t
-sendable-fits (Voiced x v) t = and_left (indicesFit x && voicingFits v) (not (eqb v.bandpass 1)) t
+pub sendable_fits : (set : ParameterSet) → T (sendable set) → T (in_range set)
+sendable_fits (Unvoiced x) t = t
+sendable_fits (Voiced x v) t = and_left (indices_fit x && voicing_fits v) (not (eqb v.bandpass 1)) t
 
 -- the six indices of a set in range are in theirs
-pub set-ranges : (set : ParameterSet) → T (in_range set) → IndexRanges (indicesIn set)
-set-ranges (Unvoiced x) t = index-ranges x t
-set-ranges (Voiced x v) t = index-ranges x (and_left (indicesFit x) (voicingFits v) t)
+pub set_ranges : (set : ParameterSet) → T (in_range set) → IndexRanges (indices_in set)
+set_ranges (Unvoiced x) t = index_ranges x t
+set_ranges (Voiced x v) t = index_ranges x (and_left (indices_fit x) (voicing_fits v) t)

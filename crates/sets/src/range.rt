@@ -1,12 +1,12 @@
 // A set's indices, and their ranges.
 ghost use Rattle.std.specs.Prelude.{◌≡◌};
-ghost use Rattle.sets.specs.Sets.{indicesIn, indicesFit, voicingFits, in_range, sendable};
+ghost use Rattle.sets.specs.Sets.{indices_in, indices_fit, voicing_fits, in_range, sendable};
 
 use crate::{Indices, ParameterSet, Voicing};
 
 // The six indices of a set.
 pub fn indices_of(set: ParameterSet) -> Indices
-    ensures { result ≡ indicesIn set }
+    ensures { result ≡ indices_in set }
 {
     match set {
         ParameterSet::Unvoiced(x) => x,
@@ -16,14 +16,14 @@ pub fn indices_of(set: ParameterSet) -> Indices
 
 // The ranges of the six.
 fn indices_fit(x: Indices) -> bool
-    ensures { result ≡ indicesFit x }
+    ensures { result ≡ indices_fit x }
 {
     (x.l1 < 128) & (x.l2 < 64) & (x.l3 < 64) & (x.l4 < 64) & (x.g2 < 32) & (x.g1 < 8)
 }
 
 // The four of a voiced set; a Fourier index has eight bits, so it always fits.
 fn voicing_fits(v: Voicing) -> bool
-    ensures { result ≡ voicingFits v }
+    ensures { result ≡ voicing_fits v }
 {
     (v.pitch < 99) & (v.bandpass < 16) & (v.aperiodic < 2)
 }

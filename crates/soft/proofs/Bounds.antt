@@ -9,23 +9,23 @@ use lib.Dec.{eqb, leb}
 use lib.ListN.{length}
 use lib.Pow.{pow_pos}
 use Rattle.bits.specs.Bits.{ones}
-use Rattle.bits.proofs.Count.{ones-le}
-use Rattle.hamming.specs.Word.{dataBits, Bounded}
+use Rattle.bits.proofs.Count.{ones_le}
+use Rattle.hamming.specs.Word.{data_bits, Bounded}
 use Rattle.hamming.specs.declared.Decoded.TheVariants.{Read, Erased}
-use Rattle.soft.specs.Choice.{codeWords, differing, key, chosen, cheapest, choose}
+use Rattle.soft.specs.Choice.{code_words, differing, key, chosen, cheapest, choose}
 use Rattle.soft.proofs.Least.{least_lt}
-use Rattle.soft.proofs.Splitting.{differing-length}
+use Rattle.soft.proofs.Splitting.{differing_length}
 
 -- the data are those of a code word
-pub chosen-lt : (n : ℕ) (q : List ℕ) (w : List Bool) → chosen n q w < codeWords n
+pub chosen_lt : (n : ℕ) (q : List ℕ) (w : List Bool) → chosen n q w < code_words n
 unfolding chosen
-chosen-lt n q w = least_lt (key n q w) (codeWords n) (pow_pos (dataBits n))
+chosen_lt n q w = least_lt (key n q w) (code_words n) (pow_pos (data_bits n))
 
 -- the outcome fits
-pub choose-bounded : (n : ℕ) (q : List ℕ) (w : List Bool) → length w ≡ n → Bounded n (choose n q w)
+pub choose_bounded : (n : ℕ) (q : List ℕ) (w : List Bool) → length w ≡ n → Bounded n (choose n q w)
 unfolding choose
-choose-bounded n q w h = go (eqb n 8 && leb 2 (cheapest n q w))
+choose_bounded n q w h = go (eqb n 8 && leb 2 (cheapest n q w))
   where
     go : (t : Bool) → Bounded n (cond t Erased (Read (chosen n q w) (ones (differing n w (chosen n q w)))))
     go true = tt
-    go false = (chosen-lt n q w, omega (arith, ones-le (differing n w (chosen n q w)), differing-length n w (chosen n q w) h))
+    go false = (chosen_lt n q w, omega (arith, ones_le (differing n w (chosen n q w)), differing_length n w (chosen n q w) h))

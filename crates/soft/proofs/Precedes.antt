@@ -32,22 +32,22 @@ module _ (x y : ℕ) (xs ys : List ℕ) where
   decides (inr h) = simp (le-ltb x y (omega (arith, h.0)), eq-eqb x y h.0, h.1)
 
 -- no key precedes itself
-pub precedes-self : (xs : List ℕ) → precedes xs xs ≡ true → ⊥
+pub precedes_self : (xs : List ℕ) → precedes xs xs ≡ true → ⊥
 unfolding Decided
-precedes-self [] e = false≢true e
-precedes-self (x ∷ xs) e = go (decided x x xs xs e) (precedes-self xs)
+precedes_self [] e = false≢true e
+precedes_self (x ∷ xs) e = go (decided x x xs xs e) (precedes_self xs)
   where
     go : Decided x x xs xs → (precedes xs xs ≡ true → ⊥) → ⊥
     go (inl h) rest = omega arith
     go (inr h) rest = rest h.1
 
 -- what precedes a key precedes all that this one precedes
-pub precedes-trans : (xs ys zs : List ℕ) → precedes xs ys ≡ true → precedes ys zs ≡ true → precedes xs zs ≡ true
+pub precedes_trans : (xs ys zs : List ℕ) → precedes xs ys ≡ true → precedes ys zs ≡ true → precedes xs zs ≡ true
 unfolding Decided
-precedes-trans xs [] zs d e = absurd (false≢true d)
-precedes-trans xs (y ∷ ys) [] d e = absurd (false≢true e)
-precedes-trans [] (y ∷ ys) (z ∷ zs) d e = refl
-precedes-trans (x ∷ xs) (y ∷ ys) (z ∷ zs) d e = decides x z xs zs (go (decided x y xs ys d) (decided y z ys zs e) (precedes-trans xs ys zs))
+precedes_trans xs [] zs d e = absurd (false≢true d)
+precedes_trans xs (y ∷ ys) [] d e = absurd (false≢true e)
+precedes_trans [] (y ∷ ys) (z ∷ zs) d e = refl
+precedes_trans (x ∷ xs) (y ∷ ys) (z ∷ zs) d e = decides x z xs zs (go (decided x y xs ys d) (decided y z ys zs e) (precedes_trans xs ys zs))
   where
     go : Decided x y xs ys → Decided y z ys zs → (precedes xs ys ≡ true → precedes ys zs ≡ true → precedes xs zs ≡ true) → Decided x z xs zs
     go (inl h) (inl k) rest = inl (omega arith)
@@ -56,8 +56,8 @@ precedes-trans (x ∷ xs) (y ∷ ys) (z ∷ zs) d e = decides x z xs zs (go (dec
     go (inr h) (inr k) rest = inr (h.0 ∙ k.0, rest h.1 k.1)
 
 -- where a key ends with the number itself and the least so far is smaller, what stands before the number decides
-pub last-decides : (xs ys : List ℕ) (u v : ℕ) → length xs ≡ length ys → v ≤ u → precedes (xs ++ u ∷ []) (ys ++ v ∷ []) ≡ precedes xs ys
-last-decides [] [] u v e h = simp (le-ltb u v h, and-false (eqb u v))
-last-decides [] (y ∷ ys) u v e h = absurd (omega arith)
-last-decides (x ∷ xs) [] u v e h = absurd (omega arith)
-last-decides (x ∷ xs) (y ∷ ys) u v e h = ap (λ (b : Bool). ltb x y || (eqb x y && b)) (last-decides xs ys u v (omega arith) h)
+pub last_decides : (xs ys : List ℕ) (u v : ℕ) → length xs ≡ length ys → v ≤ u → precedes (xs ++ u ∷ []) (ys ++ v ∷ []) ≡ precedes xs ys
+last_decides [] [] u v e h = simp (le-ltb u v h, and-false (eqb u v))
+last_decides [] (y ∷ ys) u v e h = absurd (omega arith)
+last_decides (x ∷ xs) [] u v e h = absurd (omega arith)
+last_decides (x ∷ xs) (y ∷ ys) u v e h = ap (λ (b : Bool). ltb x y || (eqb x y && b)) (last_decides xs ys u v (omega arith) h)

@@ -2,18 +2,18 @@
 -- A word is given by its length n as in `hamming`: eight bits (A), six (B), seven (C and D). q has the confidences of its n bits, w what came.
 use Rattle.std.specs.Prelude.{ℕ, ◌+◌, ◌^◌, Bool, true, false, cond, ◌&&◌, List, [], ◌∷◌, eqb, leb}
 use Rattle.bits.specs.Bits.{◌⊕◌, ones, bits, cut}
-use Rattle.hamming.specs.Word.{dataBits, encode}
+use Rattle.hamming.specs.Word.{data_bits, encode}
 use Rattle.hamming.specs.declared.Decoded.{Decoded}
 use Rattle.hamming.specs.declared.Decoded.TheVariants.{Read, Erased}
-use Rattle.soft.specs.Least.{leastBy}
+use Rattle.soft.specs.Least.{least_by}
 
 -- how many code words a word of n bits has: one for all data that are sent, sixteen in A, C and D, and the eight of B with spare 0
-abbrev pub codeWords : ℕ → ℕ
-codeWords n = 2 ^ dataBits n
+abbrev pub code_words : ℕ → ℕ
+code_words n = 2 ^ data_bits n
 
 -- the code word of data u, u0 most significant
-abbrev pub codeWord : ℕ → ℕ → List Bool
-codeWord n u = encode n (bits (dataBits n) u)
+abbrev pub code_word : ℕ → ℕ → List Bool
+code_word n u = encode n (bits (data_bits n) u)
 
 -- the sum of the confidences of the bits that are set
 abbrev pub weigh : List ℕ → List Bool → ℕ
@@ -25,7 +25,7 @@ weigh (x ∷ q) (false ∷ e) = weigh q e
 module _ (n : ℕ) where
   -- the sent places where the code word of u differs from what came
   abbrev pub differing : List Bool → ℕ → List Bool
-  differing w u = w ⊕ codeWord n u
+  differing w u = w ⊕ code_word n u
 
   module _ (q : List ℕ) (w : List Bool) where
     -- the cost of a code word: the sum of the confidences there
@@ -38,11 +38,11 @@ module _ (n : ℕ) where
 
     -- the data that are taken
     unfoldable pub chosen : ℕ
-    chosen = leastBy key (codeWords n)
+    chosen = least_by key (code_words n)
 
     -- how many code words cost as much as the one taken, itself among them
     abbrev pub cheapest : ℕ
-    cheapest = ones (cut (λ u. eqb (cost u) (cost chosen)) 0 (codeWords n))
+    cheapest = ones (cut (λ u. eqb (cost u) (cost chosen)) 0 (code_words n))
 
     -- the outcome: two or more cheapest erase word A; else the data, and how many sent places differ from their code word
     unfoldable pub choose : Decoded

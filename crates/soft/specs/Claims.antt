@@ -2,23 +2,23 @@
 use Rattle.std.specs.Prelude.{ℕ, ◌≤◌, ◌<◌, ◌≡◌, Bool, List, length, replicate}
 use Rattle.bits.specs.Bits.{ones, value}
 use Rattle.bits.specs.Lists.{Every}
-use Rattle.hamming.specs.Word.{dataBits, encode, syndrome, spareColumn, decode}
+use Rattle.hamming.specs.Word.{data_bits, encode, syndrome, spare_column, decode}
 use Rattle.hamming.specs.declared.Decoded.TheVariants.{Read, Erased}
-use Rattle.soft.specs.Choice.{codeWords, differing, cost, chosen, choose}
+use Rattle.soft.specs.Choice.{code_words, differing, cost, chosen, choose}
 
 module _ (n : ℕ) (q : List ℕ) (w : List Bool) where
   -- the data that are taken are those of a cheapest code word
   pub record Cheapest : Type 0 where
-    pub taken : chosen n q w < codeWords n
+    pub taken : chosen n q w < code_words n
     -- none of its code words costs less
-    pub least : (u : ℕ) → u < codeWords n → cost n q w (chosen n q w) ≤ cost n q w u
+    pub least : (u : ℕ) → u < code_words n → cost n q w (chosen n q w) ≤ cost n q w u
     -- and of those that cost no more none has smaller data
-    pub first : (u : ℕ) → u < codeWords n → cost n q w u ≡ cost n q w (chosen n q w) → chosen n q w ≤ u
+    pub first : (u : ℕ) → u < code_words n → cost n q w u ≡ cost n q w (chosen n q w) → chosen n q w ≤ u
 
   -- another code word costs as much
   pub record Tied : Type 0 where
     pub other : ℕ
-    pub inside : other < codeWords n
+    pub inside : other < code_words n
     pub differs : other ≡ chosen n q w → ⊥
     pub equal : cost n q w other ≡ cost n q w (chosen n q w)
 
@@ -36,8 +36,8 @@ pub record Claims : Type 0 where
   -- so word B is always read, also where it shows the spare's syndrome
   pub spare : (q : List ℕ) (w : List Bool) → choose 6 q w ≡ Read (chosen 6 q w) (ones (differing 6 w (chosen 6 q w)))
   -- equal confidences, none of them 0, leave the outcome as it is without them; the spare's syndrome in word B is the exception
-  pub equal : (n : ℕ) → 6 ≤ n → n ≤ 8 → (k : ℕ) → 0 < k → (w : List Bool) → length w ≡ n → (n ≡ 6 → syndrome 6 w ≡ spareColumn → ⊥)
+  pub equal : (n : ℕ) → 6 ≤ n → n ≤ 8 → (k : ℕ) → 0 < k → (w : List Bool) → length w ≡ n → (n ≡ 6 → syndrome 6 w ≡ spare_column → ⊥)
       → choose n (replicate n k) w ≡ decode n w
   -- a word that came as it was sent gives its data back and counts no repair, however unequal the confidences, if all are above 0
-  pub sent : (n : ℕ) → 6 ≤ n → n ≤ 8 → (q : List ℕ) → length q ≡ n → Every (λ x. 0 < x) q → (d : List Bool) → length d ≡ dataBits n
+  pub sent : (n : ℕ) → 6 ≤ n → n ≤ 8 → (q : List ℕ) → length q ≡ n → Every (λ x. 0 < x) q → (d : List Bool) → length d ≡ data_bits n
       → choose n q (encode n d) ≡ Read (value d) 0

@@ -8,6 +8,6 @@ precedes [] (y ∷ ys) = true
 precedes (x ∷ xs) (y ∷ ys) = ltb x y || (eqb x y && precedes xs ys)
 
 -- of the numbers below n the one whose key comes first, of equal keys the smaller number; 0 where there is none
-unfoldable pub leastBy : (ℕ → List ℕ) → ℕ → ℕ
-leastBy key zero = zero
-leastBy key (suc n) = cond (precedes (key n) (key (leastBy key n))) n (leastBy key n)
+unfoldable pub least_by : (ℕ → List ℕ) → ℕ → ℕ
+least_by key zero = zero
+least_by key (suc n) = cond (precedes (key n) (key (least_by key n))) n (least_by key n)

@@ -1,9 +1,9 @@
 // The cheapest code word of a word, by the prices of all of them.
 ghost use Rattle.std.specs.Prelude.{◌≡◌, cond, ◌&&◌, ◌+◌, ◌*◌, ◌/◌, ◌%◌, ◌≤◌, ◌<◌, eqb, ltb, leb, take};
-ghost use Rattle.bits.specs.Bits.{bitNum, bits};
+ghost use Rattle.bits.specs.Bits.{bit_num, bits};
 ghost use Rattle.hamming.specs.Word.{length_of};
 ghost use Rattle.soft.specs.Choice.{choose};
-ghost use Rattle.soft.specs.Prices.{keyNumber, leastIn, asCheap};
+ghost use Rattle.soft.specs.Prices.{key_number, least_in, as_cheap};
 
 use crate::prices::prices;
 use hamming::{Decoded, WordLength};
@@ -25,7 +25,7 @@ fn smaller(a: u16, b: u16) -> u16
 
 // The key of the cheapest code word. Of equal costs the smallest data have the least key.
 fn least_key(prices: [u16; 16]) -> u16
-    ensures { result ≡ keyNumber prices (leastIn prices) }
+    ensures { result ≡ key_number prices (least_in prices) }
 {
     let mut least = key_of(prices[0], 0);
     for u in 0..16 {
@@ -36,7 +36,7 @@ fn least_key(prices: [u16; 16]) -> u16
 
 // 1 for a code word that has this cost, 0 for any other.
 fn counted(price: u16, cost: u16) -> u8
-    ensures number { result ≡ bitNum (eqb (price / 16) cost) }
+    ensures number { result ≡ bit_num (eqb (price / 16) cost) }
     ensures bound { result ≤ 1 }
 {
     if price / 16 == cost { 1 } else { 0 }
@@ -44,7 +44,7 @@ fn counted(price: u16, cost: u16) -> u8
 
 // How many code words have this cost.
 fn count_of(prices: [u16; 16], cost: u16) -> u8
-    ensures { result ≡ asCheap prices cost }
+    ensures { result ≡ as_cheap prices cost }
 {
     let mut count: u8 = 0;
     for u in 0..16 {
@@ -55,7 +55,7 @@ fn count_of(prices: [u16; 16], cost: u16) -> u8
 
 // Whether the word is erased where this is the least cost: word A, by two or more code words that have it.
 fn erases(length: WordLength, prices: [u16; 16], cost: u16) -> bool
-    ensures { result ≡ (eqb (length_of length) 8 && leb 2 (asCheap prices cost)) }
+    ensures { result ≡ (eqb (length_of length) 8 && leb 2 (as_cheap prices cost)) }
 {
     match length {
         WordLength::Six => false,

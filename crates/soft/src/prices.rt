@@ -2,9 +2,9 @@
 // these places, so one sum has both.
 ghost use Rattle.std.specs.Prelude.{◌≡◌, [], ◌∷◌, map, ◌≤◌, ◌<◌, ◌^◌, take, drop};
 ghost use Rattle.bits.specs.Bits.{bits};
-ghost use Rattle.hamming.specs.Word.{length_of, checkBits, dataBits, data_of};
-ghost use Rattle.soft.specs.Choice.{codeWords};
-ghost use Rattle.soft.specs.Prices.{price, SumsOf, entryPrice, EntryFits, pricesOf, PricesFit};
+ghost use Rattle.hamming.specs.Word.{length_of, check_bits, data_bits, data_of};
+ghost use Rattle.soft.specs.Choice.{code_words};
+ghost use Rattle.soft.specs.Prices.{price, SumsOf, entry_price, EntryFits, prices_of, PricesFit};
 
 use hamming::{WordLength, parity_of};
 
@@ -54,7 +54,7 @@ fn sums(q0: u8, q1: u8, q2: u8, q3: u8) -> [u16; 16]
 
 // The sums over the data bits. Word B has three, so the number in front of them plays no part.
 fn data_sums(length: WordLength, q: [u8; 8]) -> [u16; 16]
-    ensures { SumsOf (map price (take (dataBits (length_of length)) (take (length_of length) q))) result }
+    ensures { SumsOf (map price (take (data_bits (length_of length)) (take (length_of length) q))) result }
 {
     match length {
         WordLength::Six => sums(0, q[0], q[1], q[2]),
@@ -65,7 +65,7 @@ fn data_sums(length: WordLength, q: [u8; 8]) -> [u16; 16]
 
 // The sums over the parity bits, of which only word A has four.
 fn parity_sums(length: WordLength, q: [u8; 8]) -> [u16; 16]
-    ensures { SumsOf (map price (drop (dataBits (length_of length)) (take (length_of length) q))) result }
+    ensures { SumsOf (map price (drop (data_bits (length_of length)) (take (length_of length) q))) result }
 {
     match length {
         WordLength::Six => sums(0, q[3], q[4], q[5]),
@@ -76,10 +76,10 @@ fn parity_sums(length: WordLength, q: [u8; 8]) -> [u16; 16]
 
 // What came of the word in the low bits of a number.
 fn parts_of(length: WordLength, word: u8) -> Came
-    ensures data { bits (dataBits (length_of length)) result.data ≡ data_of (length_of length) (bits (length_of length) word) }
-    ensures parity { bits (checkBits (length_of length)) result.parity ≡ drop (dataBits (length_of length)) (bits (length_of length) word) }
-    ensures count { result.count ≡ codeWords (length_of length) }
-    ensures bounds { (result.data < codeWords (length_of length)) × (result.parity < 2 ^ checkBits (length_of length)) }
+    ensures data { bits (data_bits (length_of length)) result.data ≡ data_of (length_of length) (bits (length_of length) word) }
+    ensures parity { bits (check_bits (length_of length)) result.parity ≡ drop (data_bits (length_of length)) (bits (length_of length) word) }
+    ensures count { result.count ≡ code_words (length_of length) }
+    ensures bounds { (result.data < code_words (length_of length)) × (result.parity < 2 ^ check_bits (length_of length)) }
 {
     match length {
         WordLength::Six => Came {
@@ -104,7 +104,7 @@ fn parts_of(length: WordLength, word: u8) -> Came
 // from what came.
 fn price_at(length: WordLength, came: Came, ds: &[u16; 16], ps: &[u16; 16], u: u8) -> u16
     requires { EntryFits (length_of length) came.data came.parity ds.now ps.now u }
-    ensures { result ≡ entryPrice (length_of length) came.data came.parity ds.now ps.now u }
+    ensures { result ≡ entry_price (length_of length) came.data came.parity ds.now ps.now u }
 {
     let parity = came.parity ^ parity_of(length, u);
     ds[(came.data ^ u) as usize] + ps[parity as usize]
@@ -112,7 +112,7 @@ fn price_at(length: WordLength, came: Came, ds: &[u16; 16], ps: &[u16; 16], u: u
 
 // The prices of the code words of the word in the low bits of a number, by their data, and past them numbers that no price reaches.
 pub(crate) fn prices(length: WordLength, word: u8, q: [u8; 8]) -> [u16; 16]
-    ensures prices { result ≡ pricesOf (length_of length) (take (length_of length) q) (bits (length_of length) word) }
+    ensures prices { result ≡ prices_of (length_of length) (take (length_of length) q) (bits (length_of length) word) }
     ensures bound { PricesFit (length_of length) (take (length_of length) q) (bits (length_of length) word) }
 {
     let of_data = data_sums(length, q);

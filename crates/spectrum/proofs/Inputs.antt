@@ -9,18 +9,18 @@ use lib.Dec.{leb, eqb}
 use lib.ListN.{length, take}
 use lib.Seq.{take_all, length-take-le}
 use borrow.Author.Tests.{leb-true, leb-false, ne_eqb}
-use Rattle.order.specs.Order.{defaultOrder}
+use Rattle.order.specs.Order.{default_order}
 use Rattle.sets.specs.declared.ParameterSet.{ParameterSet}
 use Rattle.records.specs.Records.{fresh}
 use Rattle.receiver.specs.Receiving.{receive}
 use Rattle.receiver.specs.declared.ReceiveAnswer.{ReceiveAnswer}
 use Rattle.receiver.specs.declared.ReceiveAnswer.TheVariants.{Result, Refused}
-use Rattle.codebook_text.specs.Text.{isLines}
+use Rattle.codebook_text.specs.Text.{is_lines}
 use Rattle.spectrum.specs.declared.values.Spectrum.{Spectrum}
-use Rattle.spectrum.specs.Values.{refused, unless, ofTexts, ofAnswer, ofFrame}
+use Rattle.spectrum.specs.Values.{refused, unless, of_texts, of_answer, of_frame}
 use Rattle.spectrum.specs.Lines.{text}
 use Rattle.spectrum.specs.Output.{printed, EnoughRead, Prints}
-use Rattle.spectrum.proofs.LongFiles.{long-text-refused}
+use Rattle.spectrum.proofs.LongFiles.{long_text_refused}
 
 -- what is the same for all inputs of n bytes and more is known by the first n
 front_ext : {B : Type 0} (n : ℕ) (f : List ℕ → B) (b : B) → ((xs : List ℕ) → n ≤ length xs → f xs ≡ b) → (xs : List ℕ) → f (take n xs) ≡ f xs
@@ -31,43 +31,43 @@ front_ext n f b same xs = go (leb n (length xs)) refl
     go false e = ap f (take_all n xs (omega (arith, leb-false n (length xs) e)))
 
 -- eight bytes and more are no frame
-long-input-refused : (bytes : List ℕ) → 8 ≤ length bytes → (receive defaultOrder fresh bytes).answer ≡ Refused 2
+long_input_refused : (bytes : List ℕ) → 8 ≤ length bytes → (receive default_order fresh bytes).answer ≡ Refused 2
 unfolding receive
-long-input-refused bytes h = let e : eqb (length bytes) 7 ≡ false = ne_eqb (length bytes) 7 (λ q. absurd (omega arith)) in rw e refl
+long_input_refused bytes h = let e : eqb (length bytes) 7 ≡ false = ne_eqb (length bytes) 7 (λ q. absurd (omega arith)) in rw e refl
 
 module _ (set : ParameterSet) (lsf magnitudes : List ℕ) where
   -- a long text of LSF
-  long-lsf-refused : 65536 ≤ length lsf → ofTexts set lsf magnitudes ≡ refused 6
-  long-lsf-refused h = rw (long-text-refused 3200 lsf (omega arith) h) refl
+  long_lsf_refused : 65536 ≤ length lsf → of_texts set lsf magnitudes ≡ refused 6
+  long_lsf_refused h = rw (long_text_refused 3200 lsf (omega arith) h) refl
 
   -- a long text of magnitudes, whatever the other is
-  long-magnitudes-refused : 65536 ≤ length magnitudes → ofTexts set lsf magnitudes ≡ refused 6
-  long-magnitudes-refused h = rw (long-text-refused 2560 magnitudes (omega arith) h) (go (isLines 3200 lsf) _)
+  long_magnitudes_refused : 65536 ≤ length magnitudes → of_texts set lsf magnitudes ≡ refused 6
+  long_magnitudes_refused h = rw (long_text_refused 2560 magnitudes (omega arith) h) (go (is_lines 3200 lsf) _)
     where
       go : (b : Bool) (found : Spectrum) → unless (cond (not b) 6 6) found ≡ refused 6
       go true found = refl
       go false found = refl
 
 -- for every answer of the receiver
-answer-ext : (r : ReceiveAnswer) (lsf magnitudes : List ℕ) → ofAnswer r (take 65536 lsf) (take 65536 magnitudes) ≡ ofAnswer r lsf magnitudes
-answer-ext (Refused n) lsf magnitudes = refl
-answer-ext (Result r) lsf magnitudes =
-    front_ext 65536 (λ t. ofTexts r.set t (take 65536 magnitudes)) _ (λ t. long-lsf-refused r.set t (take 65536 magnitudes)) lsf
-    ∙ front_ext 65536 (ofTexts r.set lsf) _ (long-magnitudes-refused r.set lsf) magnitudes
+answer_ext : (r : ReceiveAnswer) (lsf magnitudes : List ℕ) → of_answer r (take 65536 lsf) (take 65536 magnitudes) ≡ of_answer r lsf magnitudes
+answer_ext (Refused n) lsf magnitudes = refl
+answer_ext (Result r) lsf magnitudes =
+    front_ext 65536 (λ t. of_texts r.set t (take 65536 magnitudes)) _ (λ t. long_lsf_refused r.set t (take 65536 magnitudes)) lsf
+    ∙ front_ext 65536 (of_texts r.set lsf) _ (long_magnitudes_refused r.set lsf) magnitudes
 
-pub enough-read : EnoughRead
-unfolding ofFrame
-enough-read = record {
+pub enough_read : EnoughRead
+unfolding of_frame
+enough_read = record {
   same = λ input lsf magnitudes.
-      let e = front_ext 8 (λ bytes. (receive defaultOrder fresh bytes).answer) (Refused 2) long-input-refused input in
-      ap text (answer-ext (receive defaultOrder fresh (take 8 input)).answer lsf magnitudes ∙ ap (λ (r : ReceiveAnswer). ofAnswer r lsf magnitudes) e);
+      let e = front_ext 8 (λ bytes. (receive default_order fresh bytes).answer) (Refused 2) long_input_refused input in
+      ap text (answer_ext (receive default_order fresh (take 8 input)).answer lsf magnitudes ∙ ap (λ (r : ReceiveAnswer). of_answer r lsf magnitudes) e);
 }
 
 -- what is printed for the bytes that were read
-pub read-printed : (input : List ℕ) (n : ℕ) (lsf : List ℕ) (l : ℕ) (magnitudes : List ℕ) (m : ℕ)
+pub read_printed : (input : List ℕ) (n : ℕ) (lsf : List ℕ) (l : ℕ) (magnitudes : List ℕ) (m : ℕ)
     → length input ≡ 8 → length lsf ≡ 65536 → length magnitudes ≡ 65536
     → Prints input n lsf l magnitudes m (printed (take n input) (take l lsf) (take m magnitudes))
-read-printed input n lsf l magnitudes m a b c i f g hi hf hg =
+read_printed input n lsf l magnitudes m a b c i f g hi hf hg =
     (λ k. printed (hi k) (hf k) (hg k))
     ∙ (λ k. printed (take (a k) i) (take (b k) f) (take (c k) g))
-    ∙ enough-read.same i f g
+    ∙ enough_read.same i f g

@@ -8,26 +8,26 @@ use lib.ListN.{length, get_or, take}
 use lib.IntN.{ℤ}
 use lib.Seq.{length-take-le}
 use Rattle.io.specs.Counts.{IsPrefixLen}
-use Rattle.value_lines.specs.Lines.{valueLine, refusalLine}
-use Rattle.spectrum.specs.Lines.{lines, textUnless}
+use Rattle.value_lines.specs.Lines.{value_line, refusal_line}
+use Rattle.spectrum.specs.Lines.{lines, text_unless}
 
 -- the lines of one number more
-pub lines_more : (xs : List ℤ) (i : ℕ) (d : ℤ) → i < length xs → lines (take (suc i) xs) ≡ lines (take i xs) ++ valueLine (get_or xs i d)
+pub lines_more : (xs : List ℤ) (i : ℕ) (d : ℤ) → i < length xs → lines (take (suc i) xs) ≡ lines (take i xs) ++ value_line (get_or xs i d)
 unfolding lines
 lines_more [] i d h = absurd (not-suc-le-zero h)
-lines_more (x ∷ xs) zero d h = append-nil (valueLine x)
+lines_more (x ∷ xs) zero d h = append-nil (value_line x)
 lines_more (x ∷ xs) (suc i) d h =
-    ap (λ (l : List ℕ). valueLine x ++ l) (lines_more xs i d (le_of_suc-le-suc h)) ∙ sym (append_assoc (valueLine x) (lines (take i xs)) (valueLine (get_or xs i d)))
+    ap (λ (l : List ℕ). value_line x ++ l) (lines_more xs i d (le_of_suc-le-suc h)) ∙ sym (append_assoc (value_line x) (lines (take i xs)) (value_line (get_or xs i d)))
 
 -- the text of a refusal
-pub text-refused : (n : ℕ) (lsf magnitudes : List ℤ) → (n ≡ 0 → ⊥) → refusalLine n ≡ textUnless n lsf magnitudes
-text-refused zero lsf magnitudes h = absurd (h refl)
-text-refused (suc n) lsf magnitudes h = refl
+pub text_refused : (n : ℕ) (lsf magnitudes : List ℤ) → (n ≡ 0 → ⊥) → refusal_line n ≡ text_unless n lsf magnitudes
+text_refused zero lsf magnitudes h = absurd (h refl)
+text_refused (suc n) lsf magnitudes h = refl
 
 -- the text of values
-pub text-values : (n : ℕ) (lsf magnitudes : List ℤ) → n ≡ 0 → lines lsf ++ lines magnitudes ≡ textUnless n lsf magnitudes
-text-values zero lsf magnitudes h = refl
-text-values (suc n) lsf magnitudes h = absurd (omega arith)
+pub text_values : (n : ℕ) (lsf magnitudes : List ℤ) → n ≡ 0 → lines lsf ++ lines magnitudes ≡ text_unless n lsf magnitudes
+text_values zero lsf magnitudes h = refl
+text_values (suc n) lsf magnitudes h = absurd (omega arith)
 
 -- a number of bytes at the start of a buffer
 pub counted : (n : ℕ) (out : List ℕ) → n ≤ length out → IsPrefixLen n out

@@ -2,12 +2,12 @@
 -- `lsf.txt` and `mag.txt`. A file that is missing is an empty text.
 use Rattle.std.specs.Prelude.{ℕ, ◌≡◌, List, take}
 use Rattle.bits.specs.Lists.{ReadFrom}
-use Rattle.spectrum.specs.Values.{ofFrame}
+use Rattle.spectrum.specs.Values.{of_frame}
 use Rattle.spectrum.specs.Lines.{text}
 
 -- the printed bytes
 abbrev pub printed : List ℕ → List ℕ → List ℕ → List ℕ
-printed input lsf magnitudes = text (ofFrame input lsf magnitudes)
+printed input lsf magnitudes = text (of_frame input lsf magnitudes)
 
 -- the program reads at most 8 bytes of standard input and 65,536 of a file; what follows those changes nothing that is printed
 pub record EnoughRead : Type 0 where

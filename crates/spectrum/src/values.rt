@@ -1,6 +1,6 @@
 // The values of a frame, by the texts of two codebooks.
 ghost use Rattle.std.specs.Prelude.{◌≡◌};
-ghost use Rattle.spectrum.specs.Values.{refused, ofCodebooks, ofTexts, ofFrame, textNumber, valuesNumber, first_of};
+ghost use Rattle.spectrum.specs.Values.{refused, of_codebooks, of_texts, of_frame, text_number, values_number, first_of};
 
 use codebook_text::TextAnswer;
 use codebook_values::ValuesAnswer;
@@ -18,7 +18,7 @@ pub(crate) struct Spectrum {
 // What a fresh receiver makes of the bytes: a refusal of the frame comes first, then one of a text, then one of
 // a row.
 pub(crate) fn of_frame(bytes: &[u8], lsf: &[u8], magnitudes: &[u8]) -> Spectrum
-    ensures { result ≡ ofFrame bytes.now lsf.now magnitudes.now }
+    ensures { result ≡ of_frame bytes.now lsf.now magnitudes.now }
 {
     let order = order::default_order();
     let received = receiver::receive(records::fresh(), bytes, &order);
@@ -34,7 +34,7 @@ pub(crate) fn of_frame(bytes: &[u8], lsf: &[u8], magnitudes: &[u8]) -> Spectrum
 
 // The values of a set by the texts of both codebooks, which are judged before any row.
 fn of_texts(set: ParameterSet, lsf: &[u8], magnitudes: &[u8]) -> Spectrum
-    ensures { result ≡ ofTexts set lsf.now magnitudes.now }
+    ensures { result ≡ of_texts set lsf.now magnitudes.now }
 {
     let mut lsf_codebook: [i64; 3200] = [0; 3200];
     let first = text_refusal(codebook_text::read_lsf(lsf, &mut lsf_codebook));
@@ -49,7 +49,7 @@ fn of_texts(set: ParameterSet, lsf: &[u8], magnitudes: &[u8]) -> Spectrum
 
 // The values of a set by both codebooks.
 fn of_codebooks(set: ParameterSet, lsf: &[i64], magnitudes: &[i64]) -> Spectrum
-    ensures { result ≡ ofCodebooks set lsf.now magnitudes.now }
+    ensures { result ≡ of_codebooks set lsf.now magnitudes.now }
 {
     let mut components: [i64; 10] = [0; 10];
     let first = values_refusal(codebook_values::lsf_values(set, lsf, &mut components));
@@ -82,7 +82,7 @@ fn first_refusal(a: u8, b: u8) -> u8
 
 // The number of the refusal in an answer to a text, 0 is none.
 fn text_refusal(answer: TextAnswer) -> u8
-    ensures { result ≡ textNumber answer }
+    ensures { result ≡ text_number answer }
 {
     match answer {
         TextAnswer::Filled => 0,
@@ -92,7 +92,7 @@ fn text_refusal(answer: TextAnswer) -> u8
 
 // The same of an answer with values.
 fn values_refusal(answer: ValuesAnswer) -> u8
-    ensures { result ≡ valuesNumber answer }
+    ensures { result ≡ values_number answer }
 {
     match answer {
         ValuesAnswer::Written => 0,

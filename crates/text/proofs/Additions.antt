@@ -4,15 +4,15 @@ use mathlib.Core.List.{List}
 use Prim.Native.Nat.{ℕ, ◌+◌, ◌≤◌}
 use native.Mathlib.Omega.{arith}
 use lib.ListN.{length}
-use Rattle.text.specs.Placing.{placeAnswer, placeWrites, end_of, Appended}
+use Rattle.text.specs.Placing.{place_answer, place_writes, end_of, Appended}
 use Rattle.text.specs.declared.LineAnswer.{LineAnswer}
-use Rattle.text.proofs.Answers.{owed-put}
-use Rattle.text.proofs.Puts.{put-appended}
+use Rattle.text.proofs.Answers.{owed_put}
+use Rattle.text.proofs.Puts.{put_appended}
 
 module _ (text out after : List ℕ) (at most : ℕ) (answer : LineAnswer) (end : ℕ) where
   -- what a call for a line owes, where the buffer has room for `most` bytes
-  pub line-added : (answer ≡ placeAnswer text at (length out)) × ((after ≡ placeWrites text at out) × (length text ≤ most))
+  pub line_added : (answer ≡ place_answer text at (length out)) × ((after ≡ place_writes text at out) × (length text ≤ most))
       → end ≡ end_of answer at → at + most ≤ length out → Appended out at text after end × (end ≤ at + most)
-  line-added h e room =
-      let p = owed-put text at out after answer end (h.0, h.1.0) e (omega (arith, h.1.1)) in
-      (put-appended out after at end text (omega arith) p, omega (arith, p.0, h.1.1))
+  line_added h e room =
+      let p = owed_put text at out after answer end (h.0, h.1.0) e (omega (arith, h.1.1)) in
+      (put_appended out after at end text (omega arith) p, omega (arith, p.0, h.1.1))

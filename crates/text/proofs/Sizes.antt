@@ -13,16 +13,16 @@ use mir.Syntax.{w64}
 use mir.Val.{SFits, bool_byte}
 use borrow.Author.Tests.{le-ltb, ltb-true}
 use Rattle.text.specs.Text.{ascii, decimal, sign, signed}
-use Rattle.text.proofs.Decimals.{decimal-length}
+use Rattle.text.proofs.Decimals.{decimal_length}
 
 -- by the test: what starts with a minus, up to it or up to nothing
-pub sign-is : (x : ℤ) (rest : List ℕ) → take (bool_byte (lt_z x (pos 0))) (ascii "-" ++ rest) ≡ sign x
-sign-is (pos n) rest = ap (λ (t : Bool). take (bool_byte t) (ascii "-" ++ rest)) (le-ltb n 0 (omega arith))
-sign-is (negsuc n) rest = refl
+pub sign_is : (x : ℤ) (rest : List ℕ) → take (bool_byte (lt_z x (pos 0))) (ascii "-" ++ rest) ≡ sign x
+sign_is (pos n) rest = ap (λ (t : Bool). take (bool_byte t) (ascii "-" ++ rest)) (le-ltb n 0 (omega arith))
+sign_is (negsuc n) rest = refl
 
 -- -1 less the number n + 1 below 0 is n
-less-is : (n : ℕ) → negsuc 0 -ℤ negsuc n ≡ pos n
-less-is n = go (ltb (suc n) 1) refl
+less_is : (n : ℕ) → negsuc 0 -ℤ negsuc n ≡ pos n
+less_is n = go (ltb (suc n) 1) refl
   where
     go : (t : Bool) → ltb (suc n) 1 ≡ t → cond t (negsuc (1 - suc (suc n))) (pos (suc n - 1)) ≡ pos n
     go true e = absurd (omega (arith, ltb-true (suc n) 1 e))
@@ -40,10 +40,10 @@ complement (pos n) f e = absurd (omega (arith, ltb-true n 0 e))
 complement (negsuc n) f e =
     let h : n < 2 ^ 63 = f.sfits in
     record {
-      fits = rw (less-is n) (record { sfits = h });
-      above = rw (less-is n) tt;
-      small = rw (less-is n) h;
-      size = rw (less-is n) (omega arith);
+      fits = rw (less_is n) (record { sfits = h });
+      above = rw (less_is n) tt;
+      small = rw (less_is n) h;
+      size = rw (less_is n) (omega arith);
     }
 
 -- what is known of a number that is not negative
@@ -52,10 +52,10 @@ not_negative (pos n) f e = (tt, f.sfits)
 not_negative (negsuc n) f e = absurd (true≢false e)
 
 -- a signed number has at most 21 bytes
-pub signed-length-le : (x : ℤ) → SFits w64 x → length (signed x) ≤ 21
-signed-length-le (pos n) f =
+pub signed_length_le : (x : ℤ) → SFits w64 x → length (signed x) ≤ 21
+signed_length_le (pos n) f =
     let h : n < 2 ^ 63 = f.sfits in
-    omega (arith, decimal-length 19 n (omega arith))
-signed-length-le (negsuc n) f =
+    omega (arith, decimal_length 19 n (omega arith))
+signed_length_le (negsuc n) f =
     let h : n < 2 ^ 63 = f.sfits in
-    omega (arith, decimal-length 19 (suc n) (omega arith), length-append (ascii "-") (decimal (suc n)))
+    omega (arith, decimal_length 19 (suc n) (omega arith), length-append (ascii "-") (decimal (suc n)))

@@ -9,30 +9,30 @@ use lib.Seq.{take_at, drop-drop, drop-append-add, set_split, append_snoc, length
 use Rattle.text.specs.Placing.{written, Appended}
 
 -- what stands up to the end of the text
-head-length : (text : List ℕ) (at : ℕ) (out : List ℕ) → at ≤ length out → length (take at out ++ text) ≡ at + length text
-head-length text at out h = length-append (take at out) text ∙ ap (λ (k : ℕ). k + length text) (length-take-le at out h)
+head_length : (text : List ℕ) (at : ℕ) (out : List ℕ) → at ≤ length out → length (take at out ++ text) ≡ at + length text
+head_length text at out h = length-append (take at out) text ∙ ap (λ (k : ℕ). k + length text) (length-take-le at out h)
 
-pub written-length : (text : List ℕ) (at : ℕ) (out : List ℕ) → at + length text ≤ length out → length (written text at out) ≡ length out
-written-length text at out h =
+pub written_length : (text : List ℕ) (at : ℕ) (out : List ℕ) → at + length text ≤ length out → length (written text at out) ≡ length out
+written_length text at out h =
     let rest = drop (at + length text) out in
-    length-append (take at out ++ text) rest ∙ omega (arith, head-length text at out (omega arith), length-drop (at + length text) out)
+    length-append (take at out ++ text) rest ∙ omega (arith, head_length text at out (omega arith), length-drop (at + length text) out)
 
 -- the text is appended to what stands before it
-pub written-appended : (text : List ℕ) (at : ℕ) (out : List ℕ) → at ≤ length out → Appended out at text (written text at out) (at + length text)
-written-appended text at out h =
-    (refl, take_at (take at out ++ text) (drop (at + length text) out) (at + length text) (head-length text at out h))
+pub written_appended : (text : List ℕ) (at : ℕ) (out : List ℕ) → at ≤ length out → Appended out at text (written text at out) (at + length text)
+written_appended text at out h =
+    (refl, take_at (take at out ++ text) (drop (at + length text) out) (at + length text) (head_length text at out h))
 
 -- one byte stored
 pub written_one : (out : List ℕ) (at b : ℕ) → at < length out → set out at b ≡ written (b ∷ []) at out
 written_one out at b h = rw add-one (set_split out at b h ∙ sym (append_snoc (take at out) b _))
 
 -- one text after the other
-pub written-append : (xs ys : List ℕ) (at : ℕ) (out : List ℕ) → at ≤ length out
+pub written_append : (xs ys : List ℕ) (at : ℕ) (out : List ℕ) → at ≤ length out
     → written ys (at + length xs) (written xs at out) ≡ written (xs ++ ys) at out
-written-append xs ys at out h =
+written_append xs ys at out h =
     let head = take at out ++ xs in
     let rest = drop (at + length xs) out in
-    let e : length head ≡ at + length xs = head-length xs at out h in
+    let e : length head ≡ at + length xs = head_length xs at out h in
     let n : at + length xs + length ys ≡ at + length (xs ++ ys) = omega (arith, length-append xs ys) in
     let first : take (at + length xs) (head ++ rest) ++ ys ≡ take at out ++ (xs ++ ys) =
     ap (λ (l : List ℕ). l ++ ys) (take_at head rest (at + length xs) e) ∙ append_assoc (take at out) xs ys in

@@ -1,37 +1,37 @@
 -- A text put into a lent buffer from `at` on. A buffer that ends before the text does is refused with 1, document 01's number for an output
 -- that is too short; everything past the text, and before it, stays as it was.
 use Rattle.std.specs.Prelude.{ℕ, zero, suc, ◌+◌, ◌≤◌, ◌≡◌, Bool, cond, List, [], ◌∷◌, ◌++◌, ltb, length, take, drop}
-use Rattle.bits.specs.Refusals.{firstRefusal}
+use Rattle.bits.specs.Refusals.{first_refusal}
 use Rattle.text.specs.declared.LineAnswer.{LineAnswer}
 use Rattle.text.specs.declared.LineAnswer.TheVariants.{Written, Refused}
 
 -- whether a buffer of so many bytes is too short
-abbrev pub tooShort : List ℕ → ℕ → ℕ → Bool
-tooShort text at size = ltb size (at + length text)
+abbrev pub too_short : List ℕ → ℕ → ℕ → Bool
+too_short text at size = ltb size (at + length text)
 
 -- the refusals of a call that puts a text into a buffer
-abbrev pub placeRefusal : List ℕ → ℕ → ℕ → ℕ
-placeRefusal text at size = firstRefusal ((tooShort text at size, 1) ∷ [])
+abbrev pub place_refusal : List ℕ → ℕ → ℕ → ℕ
+place_refusal text at size = first_refusal ((too_short text at size, 1) ∷ [])
 
 -- where the text ends, or the refusal
-abbrev pub answerUnless : ℕ → ℕ → LineAnswer
-answerUnless zero end = Written end
-answerUnless (suc n) end = Refused (suc n)
+abbrev pub answer_unless : ℕ → ℕ → LineAnswer
+answer_unless zero end = Written end
+answer_unless (suc n) end = Refused (suc n)
 
-unfoldable pub placeAnswer : List ℕ → ℕ → ℕ → LineAnswer
-placeAnswer text at size = answerUnless (placeRefusal text at size) (at + length text)
+unfoldable pub place_answer : List ℕ → ℕ → ℕ → LineAnswer
+place_answer text at size = answer_unless (place_refusal text at size) (at + length text)
 
 -- a buffer with the text in it
 abbrev pub written : List ℕ → ℕ → List ℕ → List ℕ
 written text at out = take at out ++ text ++ drop (at + length text) out
 
 -- the buffer afterwards
-abbrev pub writesUnless : ℕ → List ℕ → ℕ → List ℕ → List ℕ
-writesUnless zero text at out = written text at out
-writesUnless (suc n) text at out = out
+abbrev pub writes_unless : ℕ → List ℕ → ℕ → List ℕ → List ℕ
+writes_unless zero text at out = written text at out
+writes_unless (suc n) text at out = out
 
-unfoldable pub placeWrites : List ℕ → ℕ → List ℕ → List ℕ
-placeWrites text at out = writesUnless (placeRefusal text at (length out)) text at out
+unfoldable pub place_writes : List ℕ → ℕ → List ℕ → List ℕ
+place_writes text at out = writes_unless (place_refusal text at (length out)) text at out
 
 -- where a text ends after the answer to a call for a line
 abbrev pub end_of : LineAnswer → ℕ → ℕ

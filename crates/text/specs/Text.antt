@@ -2,7 +2,7 @@
 use Rattle.std.specs.Prelude.{ℕ, zero, suc, ◌+◌, ◌/◌, ◌%◌, cond, List, [], ◌∷◌, ◌++◌, ltb, ℤ, pos, negsuc, nat_abs}
 use Prim.Native.Char.{code}
 use Prim.Native.String.{String, [] as none, ◌∷◌ as ◌then◌}
-use Rattle.bits.specs.Ascii.{digitByte}
+use Rattle.bits.specs.Ascii.{digit_byte}
 
 -- the bytes of a string
 abbrev pub ascii : String → List ℕ
@@ -12,7 +12,7 @@ ascii (c then s) = code c ∷ ascii s
 -- the decimal digits of a number, at most k of them
 unfoldable pub digits : ℕ → ℕ → List ℕ
 digits zero n = []
-digits (suc k) n = cond (ltb n 10) (digitByte n ∷ []) (digits k (n / 10) ++ (digitByte (n % 10) ∷ []))
+digits (suc k) n = cond (ltb n 10) (digit_byte n ∷ []) (digits k (n / 10) ++ (digit_byte (n % 10) ∷ []))
 
 -- a number in decimal, with no zero in front of another digit; no n has more than n + 1 digits
 unfoldable pub decimal : ℕ → List ℕ

@@ -1,6 +1,6 @@
 // Bytes put one after another.
 ghost use Rattle.std.specs.Prelude.{◌≡◌, ◌+◌, ◌≤◌, ltb, length};
-ghost use Rattle.text.specs.Placing.{written, placeAnswer, placeWrites, end_of};
+ghost use Rattle.text.specs.Placing.{written, place_answer, place_writes, end_of};
 
 use crate::LineAnswer;
 
@@ -28,8 +28,8 @@ pub(crate) fn is_too_short(size: usize, at: usize, length: usize) -> bool
 
 // A text to `at` and on. Refused: 1, the buffer ends before the text.
 pub fn place(text: &[u8], out: &mut [u8], at: usize) -> LineAnswer
-    ensures answer { result ≡ placeAnswer text.now at (length out.old) }
-    ensures written { out.new ≡ placeWrites text.now at out.old }
+    ensures answer { result ≡ place_answer text.now at (length out.old) }
+    ensures written { out.new ≡ place_writes text.now at out.old }
 {
     if is_too_short(out.len(), at, text.len()) {
         return LineAnswer::Refused(1);

@@ -1,6 +1,6 @@
 // Numbers in decimal, where there is room for them; where they end.
 ghost use Rattle.std.specs.Prelude.{◌≡◌, ◌+◌, ◌/◌, ◌%◌, ◌≤◌, ◌<◌, [], ◌∷◌, length};
-ghost use Rattle.bits.specs.Ascii.{digitByte};
+ghost use Rattle.bits.specs.Ascii.{digit_byte};
 ghost use Rattle.text.specs.Text.{decimal};
 ghost use Rattle.text.specs.Placing.{written};
 
@@ -9,7 +9,7 @@ ghost use Rattle.text.specs.Placing.{written};
 fn write_pair(n: u64, out: &mut [u8], at: usize) -> usize
     requires { at + 2 ≤ length out.old }
     ensures end { result ≡ at + 2 }
-    ensures text { out.new ≡ written (digitByte (n % 100 / 10) ∷ digitByte (n % 100 % 10) ∷ []) at out.old }
+    ensures text { out.new ≡ written (digit_byte (n % 100 / 10) ∷ digit_byte (n % 100 % 10) ∷ []) at out.old }
 {
     let pair = n % 100;
     let digits = 48 + pair / 10 + 256 * (48 + pair % 10);

@@ -9,42 +9,42 @@ use lib.ListN.{length, take}
 use lib.Seq.{take_all, length-take-le}
 use borrow.Author.Tests.{leb-true, leb-false}
 use Rattle.bits.specs.Lists.{ReadFrom}
-use Rattle.session.specs.Writing.{isWhole}
+use Rattle.session.specs.Writing.{is_whole}
 use Rattle.session.proofs.Frames.{whole_parts}
-use Rattle.to_session.specs.Output.{mostInput, refusalOf, fileUnless, messageIf, file, message}
+use Rattle.to_session.specs.Output.{most_input, refusal_of, file_unless, message_if, file, message}
 
 -- a long input is not 0 to 2,000 whole frames
-long-not-whole : (input : List ℕ) → mostInput ≤ length input → isWhole input ≡ false
-long-not-whole input h = go (isWhole input) refl
+long_not_whole : (input : List ℕ) → most_input ≤ length input → is_whole input ≡ false
+long_not_whole input h = go (is_whole input) refl
   where
-    go : (b : Bool) → isWhole input ≡ b → b ≡ false
+    go : (b : Bool) → is_whole input ≡ b → b ≡ false
     go true e = absurd (omega (arith, whole_parts input e))
     go false e = refl
 
 -- so it is refused with 2
-long-refused : (input : List ℕ) → mostInput ≤ length input → refusalOf input ≡ 2
-long-refused input h = rw (long-not-whole input h) refl
+long_refused : (input : List ℕ) → most_input ≤ length input → refusal_of input ≡ 2
+long_refused input h = rw (long_not_whole input h) refl
 
 -- the file and the message of as many bytes as are read are those of the input
-pub refusal-front : (input : List ℕ) → (file (take mostInput input) ≡ file input) × (message (take mostInput input) ≡ message input)
-refusal-front input = go (leb mostInput (length input)) refl
+pub refusal_front : (input : List ℕ) → (file (take most_input input) ≡ file input) × (message (take most_input input) ≡ message input)
+refusal_front input = go (leb most_input (length input)) refl
   where
-    go : (t : Bool) → leb mostInput (length input) ≡ t → (file (take mostInput input) ≡ file input) × (message (take mostInput input) ≡ message input)
+    go : (t : Bool) → leb most_input (length input) ≡ t → (file (take most_input input) ≡ file input) × (message (take most_input input) ≡ message input)
     go true e =
-        let h = leb-true mostInput (length input) e in
-        let a = long-refused (take mostInput input) (omega (arith, length-take-le mostInput input h)) in
-        let b = long-refused input h in (
-          ap (λ (n : ℕ). fileUnless n (take mostInput input)) a ∙ ap (λ (n : ℕ). fileUnless n input) (sym b),
-          ap messageIf a ∙ ap messageIf (sym b),
+        let h = leb-true most_input (length input) e in
+        let a = long_refused (take most_input input) (omega (arith, length-take-le most_input input h)) in
+        let b = long_refused input h in (
+          ap (λ (n : ℕ). file_unless n (take most_input input)) a ∙ ap (λ (n : ℕ). file_unless n input) (sym b),
+          ap message_if a ∙ ap message_if (sym b),
         )
     go false e =
-        let all = take_all mostInput input (omega (arith, leb-false mostInput (length input) e)) in
+        let all = take_all most_input input (omega (arith, leb-false most_input (length input) e)) in
         (ap file all, ap message all)
 
 -- so are those of the bytes that were read into a buffer of so many
-pub read-enough : (buffer input : List ℕ) (size : ℕ) → length buffer ≡ mostInput → ReadFrom buffer size input
+pub read_enough : (buffer input : List ℕ) (size : ℕ) → length buffer ≡ most_input → ReadFrom buffer size input
     → (file (take size buffer) ≡ file input) × (message (take size buffer) ≡ message input)
-read-enough buffer input size e read =
+read_enough buffer input size e read =
     let all = read ∙ ap (λ (m : ℕ). take m input) e in
-    let front = refusal-front input in
+    let front = refusal_front input in
     (ap file all ∙ front.0, ap message all ∙ front.1)

@@ -6,23 +6,23 @@ use Prim.Native.Nat.{ℕ}
 use native.Mathlib.Omega.{arith}
 use lib.ListN.{length}
 use borrow.Author.Tests.{le-ltb}
-use Rattle.bits.specs.Refusals.{firstRefusal}
-use Rattle.session.specs.Writing.{isWhole, anyPadded, framesOf, text_of}
+use Rattle.bits.specs.Refusals.{first_refusal}
+use Rattle.session.specs.Writing.{is_whole, any_padded, frames_of, text_of}
 use Rattle.session.proofs.Frames.{whole_parts}
-use Rattle.session.proofs.Texts.{text-le}
-use Rattle.session.specs.Format.{mostText}
-use Rattle.to_session.specs.Output.{refusalOf}
+use Rattle.session.proofs.Texts.{text_le}
+use Rattle.session.specs.Format.{most_text}
+use Rattle.to_session.specs.Output.{refusal_of}
 
 -- the refusal is never 1
-pub room-enough : (input : List ℕ) → refusalOf input ≡ 1 → ⊥
-room-enough input = go (isWhole input) refl
+pub room_enough : (input : List ℕ) → refusal_of input ≡ 1 → ⊥
+room_enough input = go (is_whole input) refl
   where
-    padded : (b : Bool) → firstRefusal ((b, 3) ∷ []) ≡ 1 → ⊥
+    padded : (b : Bool) → first_refusal ((b, 3) ∷ []) ≡ 1 → ⊥
     padded true e = omega arith
     padded false e = omega arith
 
-    go : (b : Bool) → isWhole input ≡ b → refusalOf input ≡ 1 → ⊥
+    go : (b : Bool) → is_whole input ≡ b → refusal_of input ≡ 1 → ⊥
     go true w =
-        let short = le-ltb mostText (length (text_of input)) (text-le input (whole_parts input w).1) in
-        rw (w, short) (padded (anyPadded (framesOf input)))
+        let short = le-ltb most_text (length (text_of input)) (text_le input (whole_parts input w).1) in
+        rw (w, short) (padded (any_padded (frames_of input)))
     go false w = rw w (λ e. omega arith)

@@ -1,8 +1,8 @@
 // The session file of the bytes read.
 ghost use Rattle.std.specs.Prelude.{◌≡◌, length};
 ghost use Rattle.io.specs.Counts.{IsPrefixLen};
-ghost use Rattle.session.specs.Format.{mostText};
-ghost use Rattle.to_session.specs.Output.{mostInput, AllWritten};
+ghost use Rattle.session.specs.Format.{most_text};
+ghost use Rattle.to_session.specs.Output.{most_input, AllWritten};
 
 use text::{LineAnswer, end_of};
 
@@ -15,8 +15,8 @@ pub(crate) struct Ends {
 
 // The file and the line for the standard input of which the first `size` bytes of a buffer were read.
 pub(crate) fn write_file(input: &[u8], size: usize, file: &mut [u8], message: &mut [u8]) -> Ends
-    requires input_len { (length input.now ≡ mostInput) × IsPrefixLen size input.now }
-    requires file_len { (length file.old ≡ mostText) × (length message.old ≡ 22) }
+    requires input_len { (length input.now ≡ most_input) × IsPrefixLen size input.now }
+    requires file_len { (length file.old ≡ most_text) × (length message.old ≡ 22) }
     ensures file { IsPrefixLen result.file file.new }
     ensures message { IsPrefixLen result.message message.new }
     ensures written { AllWritten input.now size file.new result.file message.new result.message }

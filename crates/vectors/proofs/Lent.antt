@@ -19,21 +19,21 @@ use Rattle.receiver.specs.contracts.Received as got
 use Rattle.receiver.specs.contracts.ReceiveAnswer as ans
 
 -- the machine value of a record
-abbrev pub rec-val : Record → Val
-rec-val = structs.val rec.the_type rec-laws.the_laws
+abbrev pub rec_val : Record → Val
+rec_val = structs.val rec.the_type rec-laws.the_laws
 
 -- where it is well made it is of the record's type
-pub rec-typed : {M : Type 1} {𝓤 : Ura M} (𝓛 : Logic 𝓤) (n : Record) (w : Val) → Is rec.the_row n (w ∷ [])
+pub rec_typed : {M : Type 1} {𝓤 : Ura M} (𝓛 : Logic 𝓤) (n : Record) (w : Val) → Is rec.the_row n (w ∷ [])
     → T (has_ty rec-laws.mir w) × WT w
-rec-typed 𝓛 n w is = ((structs.lawful rec.the_type rec-laws.the_laws 𝓛).typed n (w ∷ []) is).0
+rec_typed 𝓛 n w is = ((structs.lawful rec.the_type rec-laws.the_laws 𝓛).typed n (w ∷ []) is).0
 
 -- the machine value of a `Received`, of those of its answer and its record
-abbrev pub pair-val : Val → Val → Val
-pair-val u w = vstruct (vcons u (vcons w vnil))
+abbrev pub pair_val : Val → Val → Val
+pair_val u w = vstruct (vcons u (vcons w vnil))
 
 -- it is well made where they are
-pub is-pair : (r : Received) (u w : Val) → Is ans.the_row r.answer (u ∷ []) → Is rec.the_row r.next (w ∷ []) → Is got.the_row r (pair-val u w ∷ [])
-is-pair r u w is-u is-w = ((u ∷ [], (w ∷ [], tt)), (refl, (is-u, (is-w, tt))))
+pub is_pair : (r : Received) (u w : Val) → Is ans.the_row r.answer (u ∷ []) → Is rec.the_row r.next (w ∷ []) → Is got.the_row r (pair_val u w ∷ [])
+is_pair r u w is-u is-w = ((u ∷ [], (w ∷ [], tt)), (refl, (is-u, (is-w, tt))))
 
 -- the reference to the local at l that holds the record h, where it is lent under the name γ
 abbrev pub lent : Record → ℕ → GName → MutBor Record

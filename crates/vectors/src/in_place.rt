@@ -1,7 +1,7 @@
 // Receiving in place.
 ghost use Rattle.std.specs.Prelude.{◌≡◌};
 ghost use Rattle.receiver.specs.Receiving.{receive};
-ghost use Rattle.receiver.specs.SoftReceiving.{softReceive};
+ghost use Rattle.receiver.specs.SoftReceiving.{soft_receive};
 
 use receiver::Received;
 use records::Record;
@@ -17,7 +17,7 @@ pub(crate) fn in_place(rec: Record, frame: &[u8], order: &[u8]) -> Received
 
 // The same with a confidence for each place of the frame.
 pub(crate) fn soft_in_place(rec: Record, frame: &[u8], order: &[u8], confidences: &[u8]) -> Received
-    ensures { result ≡ softReceive order.now rec frame.now confidences.now }
+    ensures { result ≡ soft_receive order.now rec frame.now confidences.now }
 {
     let mut kept = rec;
     let answer = receiver::receive_soft_in_place(&mut kept, frame, order, confidences);

@@ -16,13 +16,13 @@ slice-aggregate-print-call : tie.Need-slice-aggregate-print-call
 slice-aggregate-print-call c = omega arith
 
 -- the length of the cleared buffer: by a law, since computing it walks over every byte
-cleared-length : length {A = ℕ} (replicate 65534 0) ≡ 65534
-cleared-length = length-replicate {A = ℕ} 65534 0
+cleared_length : length {A = ℕ} (replicate 65534 0) ≡ 65534
+cleared_length = length-replicate {A = ℕ} 65534 0
 
 print-call-requires : tie.Need-print-call-requires
 print-call-requires c κs =
     let r = c.before.before.read-full in
-    (r.auto.1.0 ∙ cleared-length, r.ensures)
+    (r.auto.1.0 ∙ cleared_length, r.ensures)
 
 returns : tie.Need-returns
 returns c = tt

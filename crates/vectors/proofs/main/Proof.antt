@@ -51,8 +51,8 @@ loop-again c = (search rules, search rules, omega (arith, at_most_one (not c.agr
 tell-requires-2 : tie.Need-tell-requires-2 invariant-loop decreases-loop
 tell-requires-2 c κs = tt
 
-returns-2 : tie.Need-returns-2 invariant-loop decreases-loop
-returns-2 c = tt
+returns_2 : tie.Need-returns-2 invariant-loop decreases-loop
+returns_2 c = tt
 
 pub main_spec : {M : Type 1} → statement M
 main_spec =
@@ -72,4 +72,4 @@ main_spec =
     loop-less
     loop-again
     tell-requires-2
-    returns-2)
+    returns_2)

@@ -4,14 +4,14 @@ use Prim.Native.Nat.{◌+◌, ◌-◌, ◌*◌, ◌/◌, ◌≤◌}
 use native.Mathlib.Numerals.{add-one}
 use native.Mathlib.Omega.{arith}
 use lib.ListN.{length}
-use Rattle.answer_sums.specs.Sums.{answerSum}
-use Rattle.bench_soft.specs.SoftFrames.{recordAfter, answerAt, sumBefore}
+use Rattle.answer_sums.specs.Sums.{answer_sum}
+use Rattle.bench_soft.specs.SoftFrames.{record_after, answer_at, sum_before}
 use Rattle.bench_soft.proofs.frames.sum_of.Statement.{statement}
 use Rattle.bench_soft.proofs.frames.sum_of.Tie as tie
 
 abbrev invariant-loop : tie.invariant-loop
 invariant-loop order bytes total₀ k₀ k-end total k =
-    (k-end ≡ length bytes / 61) × (k ≤ k-end) × (total.rec ≡ recordAfter order bytes k) × (total.sum ≡ sumBefore order bytes k) × (total.sum ≤ 10000000000 * k)
+    (k-end ≡ length bytes / 61) × (k ≤ k-end) × (total.rec ≡ record_after order bytes k) × (total.sum ≡ sum_before order bytes k) × (total.sum ≤ 10000000000 * k)
 
 abbrev decreases-loop : tie.decreases-loop
 decreases-loop order bytes total₀ k₀ k-end total k = k-end - k
@@ -20,7 +20,7 @@ fresh-requires : tie.Need-fresh-requires invariant-loop decreases-loop
 fresh-requires c κs = tt
 
 loop-holds : tie.Need-loop-init invariant-loop decreases-loop
-unfolding recordAfter sumBefore
+unfolding record_after sum_before
 loop-holds c = (refl, omega arith, c.fresh.ensures, refl, omega arith)
 
 take-frame-requires : tie.Need-take-frame-requires invariant-loop decreases-loop
@@ -36,13 +36,13 @@ loop-less : tie.Need-loop-smaller invariant-loop decreases-loop
 loop-less c = omega arith
 
 loop-again : tie.Need-loop-preserved invariant-loop decreases-loop
-unfolding sumBefore
+unfolding sum_before
 loop-again c =
     let l = c.before.before in
     let L = l.loop in
     let a = l.before.before.before.before.args in
     let f = c.take-frame.ensures in
-    rw add-one (L.invariant.0, omega arith, f.0, f.1.0 ∙ ap (λ n. n + answerSum (answerAt a.order.now a.bytes.now L.k)) L.invariant.3, f.1.1)
+    rw add-one (L.invariant.0, omega arith, f.0, f.1.0 ∙ ap (λ n. n + answer_sum (answer_at a.order.now a.bytes.now L.k)) L.invariant.3, f.1.1)
 
 returns : tie.Need-returns invariant-loop decreases-loop
 returns c =

@@ -2,8 +2,8 @@
 use mathlib.Core.Path.{ap, ◌∙◌}
 use Prim.Native.Nat.{◌+◌}
 use native.Mathlib.Omega.{arith}
-use Rattle.answer_sums.specs.Sums.{answerSum}
-use Rattle.bench_soft.proofs.SoftFrames.{answer-is, next-is}
+use Rattle.answer_sums.specs.Sums.{answer_sum}
+use Rattle.bench_soft.proofs.SoftFrames.{answer_is, next_is}
 use Rattle.bench_soft.proofs.frames.take_frame.Statement.{statement}
 use Rattle.bench_soft.proofs.frames.take_frame.Tie as tie
 
@@ -52,9 +52,9 @@ returns c =
     let s = r.before.before.before.before.before.before in
     let a = s.args in
     let x = r.receive-soft.result in
-    let answer = answer-is a.order.now a.bytes.now a.k a.before.rec x r.receive-soft.ensures s.requires.1 in
-    let next = next-is a.order.now a.bytes.now a.k a.before.rec x r.receive-soft.ensures s.requires.1 in
-    (next, (ap (λ n. a.before.sum + n) (c.before.of-answer.ensures.0 ∙ ap answerSum answer), omega arith))
+    let answer = answer_is a.order.now a.bytes.now a.k a.before.rec x r.receive-soft.ensures s.requires.1 in
+    let next = next_is a.order.now a.bytes.now a.k a.before.rec x r.receive-soft.ensures s.requires.1 in
+    (next, (ap (λ n. a.before.sum + n) (c.before.of-answer.ensures.0 ∙ ap answer_sum answer), omega arith))
 
 pub take-frame-spec : {M : Type 1} → statement M
 take-frame-spec =

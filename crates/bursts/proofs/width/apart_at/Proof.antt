@@ -8,9 +8,9 @@ use lib.Dec.{T}
 use lib.ListN.{length}
 use borrow.Author.Rules.{rules}
 use Rattle.bits.specs.Lists.{every}
-use Rattle.bits.proofs.Tests.{and_both, T_true, true-T}
+use Rattle.bits.proofs.Tests.{and_both, T_true, true_T}
 use Rattle.bursts.specs.Distances.{differ}
-use Rattle.bursts.proofs.Tests.{fails-every}
+use Rattle.bursts.proofs.Tests.{fails_every}
 use Rattle.bursts.proofs.width.apart_at.Statement.{statement}
 use Rattle.bursts.proofs.width.apart_at.Tie as tie
 
@@ -44,7 +44,7 @@ returns c =
     let L = c.before.before.before.before.before.loop in
     let s = c.before.before.before.before.before.before.before.args in
     let e : differ s.order.now s.distance L.t ≡ false = ap not (sym c.before.same-part.ensures ∙ c.if1.true) in
-    sym (fails-every (54 - s.distance) (differ s.order.now s.distance) L.t (omega arith) e)
+    sym (fails_every (54 - s.distance) (differ s.order.now s.distance) L.t (omega arith) e)
 
 add-t : tie.Need-overflow-add-t invariant-loop decreases-loop
 add-t c = omega arith
@@ -60,13 +60,13 @@ loop-again c =
     let e : f L.t ≡ true = ap not (sym c.before.same-part.ensures ∙ c.if1.false) in
     (L.invariant.0, refl, search rules, L.invariant.3, rw add-one (and_both (f L.t) (every L.t f) (T_true (f L.t) e) L.invariant.4))
 
-returns-2 : tie.Need-returns-2 invariant-loop decreases-loop
-returns-2 c =
+returns_2 : tie.Need-returns-2 invariant-loop decreases-loop
+returns_2 c =
     let L = c.before.loop in
     let s = c.before.before.before.args in
     let f = differ s.order.now s.distance in
     let e : L.t ≡ 54 - s.distance = omega arith in
-    sym (true-T (every (54 - s.distance) f) (subst (λ (n : ℕ). T (every n f)) e L.invariant.4))
+    sym (true_T (every (54 - s.distance) f) (subst (λ (n : ℕ). T (every n f)) e L.invariant.4))
 
 pub apart-at-spec : {M : Type 1} → statement M
 apart-at-spec =
@@ -84,4 +84,4 @@ apart-at-spec =
     add-t
     loop-less
     loop-again
-    returns-2)
+    returns_2)

@@ -10,8 +10,8 @@ returns c =
     let b = c.before.args.bit in
     rw (lt-ltb b 8 (omega arith)) refl
 
-returns-2 : tie.Need-returns-2
-returns-2 c =
+returns_2 : tie.Need-returns-2
+returns_2 c =
     let b = c.before.before.args.bit in
     rw (le-ltb b 8 (omega arith), lt-ltb b 14 (omega arith)) refl
 
@@ -36,4 +36,4 @@ returns-6 c =
     rw (le-ltb b 8 (omega arith), le-ltb b 14 (omega arith), le-ltb b 21 (omega arith), le-ltb b 28 (omega arith), le-ltb b 35 (omega arith)) refl
 
 pub part-of-spec : {M : Type 1} → statement M
-part-of-spec = tie.close (tie.spec returns returns-2 returns-3 returns-4 returns-5 returns-6)
+part-of-spec = tie.close (tie.spec returns returns_2 returns-3 returns-4 returns-5 returns-6)

@@ -5,7 +5,7 @@ use Prim.Native.Nat.{ℕ, ◌≤◌, ◌<◌}
 use native.Mathlib.Omega.{arith}
 use lib.Dec.{eqb, ltb}
 use borrow.Author.Tests.{lt-ltb, le-ltb}
-use Rattle.bursts.specs.Distances.{partOf}
+use Rattle.bursts.specs.Distances.{part_of}
 use Rattle.bursts.proofs.width.same_part.Statement.{statement}
 use Rattle.bursts.proofs.width.same_part.Tie as tie
 
@@ -27,13 +27,13 @@ returns : tie.Need-returns
 returns c =
     let first = c.before.before in
     let s = first.before.args in
-    asked first.part_of.result c.part-of2.result (partOf s.a) (partOf s.b) first.part_of.ensures c.part-of2.ensures (omega arith)
+    asked first.part_of.result c.part-of2.result (part_of s.a) (part_of s.b) first.part_of.ensures c.part-of2.ensures (omega arith)
 
-returns-2 : tie.Need-returns-2
-returns-2 c =
+returns_2 : tie.Need-returns-2
+returns_2 c =
     let first = c.before in
     let s = first.before.args in
-    unasked first.part_of.result (partOf s.a) (partOf s.b) first.part_of.ensures (omega arith)
+    unasked first.part_of.result (part_of s.a) (part_of s.b) first.part_of.ensures (omega arith)
 
 pub same-part-spec : {M : Type 1} → statement M
-same-part-spec = tie.close (tie.spec part-of-requires part-of-requires-2 returns returns-2)
+same-part-spec = tie.close (tie.spec part-of-requires part-of-requires-2 returns returns_2)

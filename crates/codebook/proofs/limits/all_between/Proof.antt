@@ -10,7 +10,7 @@ use mir.Val.{SFits, to_z}
 use mir.ValLaws.{to_z-of_z}
 use borrow.Author.Rules.{rules}
 use Rattle.codebook.specs.Rows.{between, all_fit}
-use Rattle.codebook.proofs.Entries.{fit-more, fit_is}
+use Rattle.codebook.proofs.Entries.{fit_more, fit_is}
 use Rattle.codebook.proofs.limits.all_between.Statement.{statement}
 use Rattle.codebook.proofs.limits.all_between.Tie as tie
 
@@ -48,7 +48,7 @@ loop-again c =
     let h : L.i < length row = omega arith in
     let f : SFits w64 (get_or row L.i (pos 0)) = record { sfits = c.before.is-between-arg.given } in
     let e = simp (to_z-of_z w64 _ f) at c.is-between.ensures in
-    (omega arith, fit-more _ row L.fit c.is-between.result L.i h e L.invariant.1)
+    (omega arith, fit_more _ row L.fit c.is-between.result L.i h e L.invariant.1)
 
 returns : tie.Need-returns invariant-loop decreases-loop
 returns c =

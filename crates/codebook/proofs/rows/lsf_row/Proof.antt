@@ -6,10 +6,10 @@ use Prim.Native.Nat.{ℕ}
 use lib.Dec.{eqb}
 use lib.IntN.{ℤ}
 use lib.ListN.{length}
-use Rattle.bits.specs.Refusals.{firstRefusal}
-use Rattle.codebook.specs.Rows.{rowAt, lsfSize, lsfFits, all_fit, rowUnless}
-use Rattle.codebook.specs.RowNumbers.{rowTable}
-use Rattle.codebook.proofs.StageRows.{row-number-is}
+use Rattle.bits.specs.Refusals.{first_refusal}
+use Rattle.codebook.specs.Rows.{row_at, lsf_size, lsf_fits, all_fit, row_unless}
+use Rattle.codebook.specs.RowNumbers.{row_table}
+use Rattle.codebook.proofs.StageRows.{row_number_is}
 use Rattle.codebook.proofs.rows.lsf_row.Statement.{statement}
 use Rattle.codebook.proofs.rows.lsf_row.Tie as tie
 
@@ -24,8 +24,8 @@ returns c =
     let a = c.before.before.args in
     let n = c.before.lsf-row-number in
     let b = a.codebook.now in
-    let f : Bool → ℕ → List ℤ = λ t k. rowUnless (firstRefusal (rowTable t (eqb (length b) lsfSize) (all_fit lsfFits (rowAt b k)))) (rowAt b k) in
-    row-number-is f (λ j k. refl) a.stage a.index n.result n.ensures _ c.row-or-none.ensures
+    let f : Bool → ℕ → List ℤ = λ t k. row_unless (first_refusal (row_table t (eqb (length b) lsf_size) (all_fit lsf_fits (row_at b k)))) (row_at b k) in
+    row_number_is f (λ j k. refl) a.stage a.index n.result n.ensures _ c.row-or-none.ensures
 
 pub lsf-row-spec : {M : Type 1} → statement M
 lsf-row-spec = tie.close (tie.spec lsf-row-number-requires row-or-none-requires returns)

@@ -4,10 +4,10 @@ use mathlib.Core.Bool.{Bool}
 use Prim.Native.Nat.{ℕ}
 use lib.Dec.{eqb}
 use lib.ListN.{length}
-use Rattle.bits.specs.Refusals.{firstRefusal}
-use Rattle.codebook.specs.Rows.{rowAt, lsfSize, lsfFits, all_fit}
-use Rattle.codebook.specs.RowNumbers.{rowTable}
-use Rattle.codebook.proofs.StageRows.{row-number-is}
+use Rattle.bits.specs.Refusals.{first_refusal}
+use Rattle.codebook.specs.Rows.{row_at, lsf_size, lsf_fits, all_fit}
+use Rattle.codebook.specs.RowNumbers.{row_table}
+use Rattle.codebook.proofs.StageRows.{row_number_is}
 use Rattle.codebook.proofs.rows.lsf_row_refusal.Statement.{statement}
 use Rattle.codebook.proofs.rows.lsf_row_refusal.Tie as tie
 
@@ -22,8 +22,8 @@ returns c =
     let a = c.before.before.args in
     let n = c.before.lsf-row-number in
     let b = a.codebook.now in
-    let f : Bool → ℕ → ℕ = λ t k. firstRefusal (rowTable t (eqb (length b) lsfSize) (all_fit lsfFits (rowAt b k))) in
-    row-number-is f (λ j k. refl) a.stage a.index n.result n.ensures _ c.row-refusal.ensures
+    let f : Bool → ℕ → ℕ = λ t k. first_refusal (row_table t (eqb (length b) lsf_size) (all_fit lsf_fits (row_at b k))) in
+    row_number_is f (λ j k. refl) a.stage a.index n.result n.ensures _ c.row-refusal.ensures
 
 pub lsf-row-refusal-spec : {M : Type 1} → statement M
 lsf-row-refusal-spec = tie.close (tie.spec lsf-row-number-requires row-refusal-requires returns)

@@ -3,7 +3,7 @@ use mathlib.Core.Path.{◌≡◌, ap, ◌∙◌}
 use Prim.Native.Nat.{ℕ, ◌+◌, ◌-◌, ◌*◌}
 use native.Mathlib.Omega.{arith}
 use lib.ListN.{length, take, drop}
-use Rattle.codebook.proofs.Answers.{row-length}
+use Rattle.codebook.proofs.Answers.{row_length}
 use Rattle.codebook.proofs.rows.row_at.Statement.{statement}
 use Rattle.codebook.proofs.rows.row_at.Tie as tie
 
@@ -31,7 +31,7 @@ returns c =
     let at = 10 * a.k in
     let b = a.codebook.now in
     let e : at + 10 - at ≡ 10 = omega arith in
-    (ap (λ (n : ℕ). take n (drop at b)) e, ap (λ (n : ℕ). length (take n (drop at b))) e ∙ row-length b a.k c.before.requires)
+    (ap (λ (n : ℕ). take n (drop at b)) e, ap (λ (n : ℕ). length (take n (drop at b))) e ∙ row_length b a.k c.before.requires)
 
 pub row-at-spec : {M : Type 1} → statement M
 row-at-spec = tie.close (tie.spec mul_at add-result mul-result sub-result part-result-start part-result-end returns)

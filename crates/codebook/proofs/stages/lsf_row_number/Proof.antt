@@ -4,7 +4,7 @@ use mathlib.Core.Bool.{true, false}
 use native.Mathlib.Omega.{arith}
 use lib.Dec.{ltb}
 use borrow.Author.Tests.{lt-ltb, le-ltb}
-use Rattle.codebook.specs.Rows.{stageRows}
+use Rattle.codebook.specs.Rows.{stage_rows}
 use Rattle.codebook.proofs.stages.lsf_row_number.Statement.{statement}
 use Rattle.codebook.proofs.stages.lsf_row_number.Tie as tie
 
@@ -20,14 +20,14 @@ add-result c = omega arith
 returns : tie.Need-returns
 returns c =
     let a = c.before.before.before.args in
-    let t : ltb a.index (stageRows a.stage) ≡ true = rw (sym c.before.before.stage-rows.ensures) (lt-ltb _ _ c.before.if1.true) in
+    let t : ltb a.index (stage_rows a.stage) ≡ true = rw (sym c.before.before.stage-rows.ensures) (lt-ltb _ _ c.before.if1.true) in
     simp (t, c.stage-start.ensures.0)
 
-returns-2 : tie.Need-returns-2
-returns-2 c =
+returns_2 : tie.Need-returns-2
+returns_2 c =
     let a = c.before.before.args in
-    let t : ltb a.index (stageRows a.stage) ≡ false = rw (sym c.before.stage-rows.ensures) (le-ltb _ _ c.if1.false) in
+    let t : ltb a.index (stage_rows a.stage) ≡ false = rw (sym c.before.stage-rows.ensures) (le-ltb _ _ c.if1.false) in
     simp t
 
 pub lsf-row-number-spec : {M : Type 1} → statement M
-lsf-row-number-spec = tie.close (tie.spec stage-rows-requires stage-start-requires add-result returns returns-2)
+lsf-row-number-spec = tie.close (tie.spec stage-rows-requires stage-start-requires add-result returns returns_2)

@@ -6,11 +6,11 @@ use Rattle.codebook.proofs.stages.stage_rows.Tie as tie
 returns : tie.Need-returns
 returns c = simp (eq-eqb _ _ c.if1.true)
 
-returns-2 : tie.Need-returns-2
-returns-2 c = simp (ne_eqb _ _ c.before.if1.false, c.if2.true)
+returns_2 : tie.Need-returns-2
+returns_2 c = simp (ne_eqb _ _ c.before.if1.false, c.if2.true)
 
 returns-3 : tie.Need-returns-3
 returns-3 c = simp (ne_eqb _ _ c.before.if1.false, c.if2.false)
 
 pub stage-rows-spec : {M : Type 1} → statement M
-stage-rows-spec = tie.close (tie.spec returns returns-2 returns-3)
+stage-rows-spec = tie.close (tie.spec returns returns_2 returns-3)

@@ -3,7 +3,7 @@ use mathlib.Core.Path.{ap}
 use mathlib.Core.Bool.{Bool, ◌&&◌}
 use lib.Dec.{leb}
 use lib.ListN.{length}
-use Rattle.codebook_text.specs.Text.{isDigits}
+use Rattle.codebook_text.specs.Text.{is_digits}
 use Rattle.codebook_text.proofs.line.is_digits.Statement.{statement}
 use Rattle.codebook_text.proofs.line.is_digits.Tie as tie
 
@@ -11,7 +11,7 @@ all-digits-requires : tie.Need-all-digits-requires
 all-digits-requires c κs = tt
 
 returns : tie.Need-returns
-unfolding isDigits
+unfolding is_digits
 returns c =
     let n = length c.before.before.args.digits.now in
     ap (λ (b : Bool). leb 1 n && leb n 10 && b) c.all_digits.ensures

@@ -1,9 +1,9 @@
 -- `codebook_text::line::number` meets its contract: ten digits stay far from the ends of the type. Assumes nothing.
 use mathlib.Core.Path.{◌≡◌, sym, ◌∙◌}
 use mathlib.Core.Bool.{true, false}
-use Rattle.codebook_text.specs.Text.{isNegative, unsigned, digitsValue, number_of}
+use Rattle.codebook_text.specs.Text.{is_negative, unsigned, digits_value, number_of}
 use Rattle.codebook_text.proofs.Digits.{number_digits}
-use Rattle.codebook_text.proofs.Signs.{signed_is, negated_fits, negated-is}
+use Rattle.codebook_text.proofs.Signs.{signed_is, negated_fits, negated_is}
 use native.Mathlib.Omega.{arith}
 use Rattle.codebook_text.proofs.line.number.Statement.{statement}
 use Rattle.codebook_text.proofs.line.number.Tie as tie
@@ -28,18 +28,18 @@ unfolding number_of
 returns c =
     let m = c.before.before.digits_value in
     let line = c.before.before.before.before.before.args.line.now in
-    let n : isNegative line ≡ true = sym c.before.is_negative.ensures ∙ c.if1.true in
-    let v : m.result ≡ digitsValue (unsigned line) = rw c.before.before.before.unsigned-part.ensures at m.ensures.0 in
-    rw (n, ← v) (negated-is m.result m.ensures.1)
+    let n : is_negative line ≡ true = sym c.before.is_negative.ensures ∙ c.if1.true in
+    let v : m.result ≡ digits_value (unsigned line) = rw c.before.before.before.unsigned-part.ensures at m.ensures.0 in
+    rw (n, ← v) (negated_is m.result m.ensures.1)
 
-returns-2 : tie.Need-returns-2
+returns_2 : tie.Need-returns-2
 unfolding number_of
-returns-2 c =
+returns_2 c =
     let m = c.before.before.digits_value in
     let line = c.before.before.before.before.before.args.line.now in
-    let n : isNegative line ≡ false = sym c.before.is_negative.ensures ∙ c.if1.false in
-    let v : m.result ≡ digitsValue (unsigned line) = rw c.before.before.before.unsigned-part.ensures at m.ensures.0 in
+    let n : is_negative line ≡ false = sym c.before.is_negative.ensures ∙ c.if1.false in
+    let v : m.result ≡ digits_value (unsigned line) = rw c.before.before.before.unsigned-part.ensures at m.ensures.0 in
     rw (n, ← v) (signed_is m.result m.ensures.1)
 
 pub number-spec : {M : Type 1} → statement M
-number-spec = tie.close (tie.spec unsigned-part-requires digits-value-requires cast-size is-negative-requires sub-result returns returns-2)
+number-spec = tie.close (tie.spec unsigned-part-requires digits-value-requires cast-size is-negative-requires sub-result returns returns_2)

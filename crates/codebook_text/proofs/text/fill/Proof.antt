@@ -8,8 +8,8 @@ use lib.ListN.{length, take, drop}
 use mir.Syntax.{w64}
 use mir.Val.{to_z, of_z}
 use mir.ValLaws.{to_z-of_z}
-use Rattle.codebook_text.specs.Text.{line_of, number_of, isLines, numbers}
-use Rattle.codebook_text.proofs.Turns.{Place, line-is, lines-parts, numbers_more, numbers-all}
+use Rattle.codebook_text.specs.Text.{line_of, number_of, is_lines, numbers}
+use Rattle.codebook_text.proofs.Turns.{Place, line_is, lines_parts, numbers_more, numbers_all}
 use borrow.Author.Rules.{rules}
 use Rattle.codebook_text.proofs.text.fill.Statement.{statement}
 use Rattle.codebook_text.proofs.text.fill.Tie as tie
@@ -20,7 +20,7 @@ invariant-loop text codebook₀ at₀ i₀ i-end codebook at i =
     × (i ≤ length codebook₀)
     × (length codebook ≡ length codebook₀)
     × (at ≤ length text)
-    × (isLines (length codebook₀ - i) (drop at text) ≡ true)
+    × (is_lines (length codebook₀ - i) (drop at text) ≡ true)
     × (take i codebook ++ numbers (length codebook₀ - i) (drop at text) ≡ numbers (length codebook₀) text)
 
 abbrev decreases-loop : tie.decreases-loop
@@ -53,7 +53,7 @@ part-number-end : tie.Need-slice-bounds-number-end invariant-loop decreases-loop
 part-number-end c = omega arith
 
 number-requires : tie.Need-number-requires invariant-loop decreases-loop
-number-requires c κs = let p = place c.before in rw (line-is p) (lines-parts p c.before.before.before.loop.invariant.4).good
+number-requires c κs = let p = place c.before in rw (line_is p) (lines_parts p c.before.before.before.loop.invariant.4).good
 
 mul-t13 : tie.Need-overflow-mul-t13 invariant-loop decreases-loop
 mul-t13 c = omega arith
@@ -64,7 +64,7 @@ slice-set-from-codebook c = omega arith
 add_at : tie.Need-overflow-add-at invariant-loop decreases-loop
 add_at c =
     let ended = c.before.before in
-    omega (arith, (lines-parts (place ended) ended.before.before.loop.invariant.4).ended)
+    omega (arith, (lines_parts (place ended) ended.before.before.loop.invariant.4).ended)
 
 add-i : tie.Need-overflow-add-i invariant-loop decreases-loop
 add-i c = omega arith
@@ -78,16 +78,16 @@ loop-again c =
     let turn = ended.before.before in
     let L = turn.loop in
     let p = place ended in
-    let g = lines-parts p L.invariant.4 in
+    let g = lines_parts p L.invariant.4 in
     let v : to_z w64 (of_z w64 c.number.result) ≡ number_of (line_of (drop L.at turn.before.before.args.text.now)) =
-    to_z-of_z w64 c.number.result (record { sfits = c.number.type-inv }) ∙ (rw (line-is p) at c.number.ensures) in
+    to_z-of_z w64 c.number.result (record { sfits = c.number.type-inv }) ∙ (rw (line_is p) at c.number.ensures) in
     (L.invariant.0, omega arith, search rules, omega (arith, g.ended), g.rest, numbers_more p L.codebook _ _ (omega arith) v L.invariant.5)
 
 same_length : tie.Need-same-length invariant-loop decreases-loop
 same_length c = omega arith
 
 returns : tie.Need-returns invariant-loop decreases-loop
-returns c = let L = c.before.loop in numbers-all _ L.codebook _ _ L.i (omega arith) (omega arith) L.invariant.5
+returns c = let L = c.before.loop in numbers_all _ L.codebook _ _ L.i (omega arith) (omega arith) L.invariant.5
 
 pub fill_spec : {M : Type 1} → statement M
 fill_spec =

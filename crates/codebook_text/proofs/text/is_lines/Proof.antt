@@ -4,13 +4,13 @@ use Prim.Native.Nat.{◌-◌, ◌≤◌}
 use native.Mathlib.Omega.{arith}
 use lib.ListN.{length, drop}
 use borrow.Author.Tests.{not-true, not-false}
-use Rattle.codebook_text.specs.Text.{line_of, isNumber, isLines}
-use Rattle.codebook_text.proofs.Turns.{empty-is, Place, line-is, lines-open, lines-bad, lines-good}
+use Rattle.codebook_text.specs.Text.{line_of, is_number, is_lines}
+use Rattle.codebook_text.proofs.Turns.{empty_is, Place, line_is, lines_open, lines_bad, lines_good}
 use Rattle.codebook_text.proofs.text.is_lines.Statement.{statement}
 use Rattle.codebook_text.proofs.text.is_lines.Tie as tie
 
 abbrev invariant-loop : tie.invariant-loop
-invariant-loop text n at₀ i₀ at i = (i ≤ n) × (at ≤ length text) × (isLines n text ≡ isLines (n - i) (drop at text))
+invariant-loop text n at₀ i₀ at i = (i ≤ n) × (at ≤ length text) × (is_lines n text ≡ is_lines (n - i) (drop at text))
 
 abbrev decreases-loop : tie.decreases-loop
 decreases-loop text n at₀ i₀ at i = n - i
@@ -34,7 +34,7 @@ place c = record { some = c.before.loop-test.true; within = c.before.before.loop
 returns : tie.Need-returns invariant-loop decreases-loop
 returns c =
     let ended = c.before in
-    sym (ended.before.before.loop.invariant.2 ∙ lines-open (place ended) c.if1.true)
+    sym (ended.before.before.loop.invariant.2 ∙ lines_open (place ended) c.if1.true)
 
 sub-is-number : tie.Need-overflow-sub-is-number invariant-loop decreases-loop
 sub-is-number c = omega arith
@@ -51,15 +51,15 @@ is-number-requires c κs = tt
 -- what the call says of the line at hand
 judged : (c : tie.After-is-number invariant-loop decreases-loop) →
     let turn = c.before.before.before.before.before in
-    isNumber (line_of (drop turn.loop.at turn.before.before.args.text.now)) ≡ c.is_number.result
-judged c = sym (rw (line-is (place c.before.before.before)) at c.is_number.ensures)
+    is_number (line_of (drop turn.loop.at turn.before.before.args.text.now)) ≡ c.is_number.result
+judged c = sym (rw (line_is (place c.before.before.before)) at c.is_number.ensures)
 
-returns-2 : tie.Need-returns-2 invariant-loop decreases-loop
-returns-2 c =
+returns_2 : tie.Need-returns-2 invariant-loop decreases-loop
+returns_2 c =
     let judge = c.before in
     let ended = judge.before.before.before in
     let bad = judged judge ∙ not-true judge.is_number.result c.if2.true in
-    sym (ended.before.before.loop.invariant.2 ∙ lines-bad (place ended) bad)
+    sym (ended.before.before.loop.invariant.2 ∙ lines_bad (place ended) bad)
 
 add_at : tie.Need-overflow-add-at invariant-loop decreases-loop
 add_at c = omega arith
@@ -75,18 +75,18 @@ loop-again c =
     let judge = c.before in
     let ended = judge.before.before.before in
     let good = judged judge ∙ not-false judge.is_number.result c.if2.false in
-    (omega arith, omega arith, ended.before.before.loop.invariant.2 ∙ lines-good (place ended) (omega arith) good)
+    (omega arith, omega arith, ended.before.before.loop.invariant.2 ∙ lines_good (place ended) (omega arith) good)
 
 returns-3 : tie.Need-returns-3 invariant-loop decreases-loop
-unfolding isLines
+unfolding is_lines
 returns-3 c =
     let L = c.before.loop in
     let s = c.before.before.before.args in
     let e : s.n - L.i ≡ 0 = omega arith in
-    empty-is s.text.now L.at L.invariant.1 ∙ sym (rw e at L.invariant.2)
+    empty_is s.text.now L.at L.invariant.1 ∙ sym (rw e at L.invariant.2)
 
 pub is-lines-spec : {M : Type 1} → statement M
 is-lines-spec =
     tie.close
-    (tie.spec invariant-loop decreases-loop loop-holds line-end-requires returns sub-is-number part-is-number-start part-is-number-end is-number-requires returns-2
+    (tie.spec invariant-loop decreases-loop loop-holds line-end-requires returns sub-is-number part-is-number-start part-is-number-end is-number-requires returns_2
     add_at add-i loop-less loop-again returns-3)

@@ -4,7 +4,7 @@ use Prim.Native.Nat.{◌+◌, ◌-◌, ◌≤◌}
 use native.Mathlib.Omega.{arith}
 use lib.ListN.{length, drop}
 use Rattle.codebook_text.specs.Text.{line_of}
-use Rattle.codebook_text.proofs.Lines.{line-stop, line-more, line-out}
+use Rattle.codebook_text.proofs.Lines.{line_stop, line_more, line_out}
 use Rattle.codebook_text.proofs.text.line_end.Statement.{statement}
 use Rattle.codebook_text.proofs.text.line_end.Tie as tie
 
@@ -23,7 +23,7 @@ shared-slice-read-if1 c = omega arith
 returns : tie.Need-returns invariant-loop decreases-loop
 returns c =
     let L = c.before.before.before.loop in
-    omega (arith, line-stop c.before.before.before.before.args.text.now L.i c.before.before.loop-test.true c.if1.true)
+    omega (arith, line_stop c.before.before.before.before.args.text.now L.i c.before.before.loop-test.true c.if1.true)
 
 add-i : tie.Need-overflow-add-i invariant-loop decreases-loop
 add-i c = omega arith
@@ -34,11 +34,11 @@ loop-less c = omega arith
 loop-again : tie.Need-loop-preserved invariant-loop decreases-loop
 loop-again c =
     let L = c.before.before.before.loop in
-    omega (arith, line-more c.before.before.before.before.args.text.now L.i c.before.before.loop-test.true c.if1.false)
+    omega (arith, line_more c.before.before.before.before.args.text.now L.i c.before.before.loop-test.true c.if1.false)
 
-returns-2 : tie.Need-returns-2 invariant-loop decreases-loop
-returns-2 c =
-    omega (arith, line-out c.before.before.args.text.now c.before.loop.i c.loop-test.false)
+returns_2 : tie.Need-returns-2 invariant-loop decreases-loop
+returns_2 c =
+    omega (arith, line_out c.before.before.args.text.now c.before.loop.i c.loop-test.false)
 
 pub line-end-spec : {M : Type 1} → statement M
-line-end-spec = tie.close (tie.spec invariant-loop decreases-loop loop-holds shared-slice-read-if1 returns add-i loop-less loop-again returns-2)
+line-end-spec = tie.close (tie.spec invariant-loop decreases-loop loop-holds shared-slice-read-if1 returns add-i loop-less loop-again returns_2)

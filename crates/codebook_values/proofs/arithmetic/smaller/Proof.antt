@@ -8,8 +8,8 @@ use Rattle.codebook_values.proofs.arithmetic.smaller.Tie as tie
 returns : tie.Need-returns
 returns c = let f = c.before.ranges in simp (to_z-of_z w64 _ f.y, test_back f.y f.x c.if1.true)
 
-returns-2 : tie.Need-returns-2
-returns-2 c = let f = c.before.ranges in simp (to_z-of_z w64 _ f.x, test_back f.y f.x c.if1.false)
+returns_2 : tie.Need-returns-2
+returns_2 c = let f = c.before.ranges in simp (to_z-of_z w64 _ f.x, test_back f.y f.x c.if1.false)
 
 pub smaller-spec : {M : Type 1} → statement M
-smaller-spec = tie.close (tie.spec returns returns-2)
+smaller-spec = tie.close (tie.spec returns returns_2)

@@ -4,12 +4,12 @@ use lib.IntN.{◌+ℤ◌}
 use mir.Syntax.{w64}
 use mir.Val.{SFits}
 use mir.ValLaws.{to_z-of_z}
-use Rattle.codebook_values.proofs.Sizes.{abs-fits, abs-add-le}
+use Rattle.codebook_values.proofs.Sizes.{abs_fits, abs_add_le}
 use Rattle.codebook_values.proofs.arithmetic.sum.Statement.{statement}
 use Rattle.codebook_values.proofs.arithmetic.sum.Tie as tie
 
 fits : (c : tie.Start) → SFits w64 (c.args.x +ℤ c.args.y)
-fits c = abs-fits _ (omega (arith, abs-add-le c.args.x c.args.y))
+fits c = abs_fits _ (omega (arith, abs_add_le c.args.x c.args.y))
 
 add-result : tie.Need-overflow-add-result
 add-result c = simp (to_z-of_z w64 _ c.ranges.x, to_z-of_z w64 _ c.ranges.y) (fits c)

@@ -8,23 +8,23 @@ use lib.IntN.{ℤ, pos, nat_abs, neg_ℤ, ◌-ℤ◌}
 use mir.Syntax.{w64}
 use mir.Val.{to_z, of_z}
 use borrow.Author.Rules.{rules}
-use Rattle.codebook_values.specs.Values.{smaller, spacing, highest, mostBelow, lowered}
-use Rattle.codebook_values.proofs.Sizes.{number-back, abs-add-le}
-use Rattle.codebook_values.proofs.Lowered.{lowered-abs-le}
-use Rattle.codebook_values.proofs.LoweredTurns.{loweredFrom, lowered-start, lowered-at, lowered-more}
+use Rattle.codebook_values.specs.Values.{smaller, spacing, highest, most_below, lowered}
+use Rattle.codebook_values.proofs.Sizes.{number_back, abs_add_le}
+use Rattle.codebook_values.proofs.Lowered.{lowered_abs_le}
+use Rattle.codebook_values.proofs.LoweredTurns.{lowered_from, lowered_start, lowered_at, lowered_more}
 use Rattle.codebook_values.proofs.lowering.lower.Statement.{statement}
 use Rattle.codebook_values.proofs.lowering.lower.Tie as tie
 
 abbrev invariant-loop : tie.invariant-loop
 invariant-loop out₀ most₀ at₀ out most at =
     (at ≤ 10) × (length out ≡ length out₀) × (nat_abs (to_z w64 most) + 50000000 * at ≤ 4450000000)
-    × (to_z w64 most ≡ mostBelow highest (lowered highest (drop at (take 10 out₀)))) × (out ≡ loweredFrom highest at (take 10 out₀) (drop 10 out₀))
+    × (to_z w64 most ≡ most_below highest (lowered highest (drop at (take 10 out₀)))) × (out ≡ lowered_from highest at (take 10 out₀) (drop 10 out₀))
 
 abbrev decreases-loop : tie.decreases-loop
 decreases-loop out₀ most₀ at₀ out most at = at
 
 loop-holds : tie.Need-loop-init invariant-loop decreases-loop
-loop-holds c = let s = lowered-start highest 10 c.args.out.now in (omega arith, search rules, omega arith, s.0, s.1)
+loop-holds c = let s = lowered_start highest 10 c.args.out.now in (omega arith, search rules, omega arith, s.0, s.1)
 
 sub_at : tie.Need-overflow-sub-at invariant-loop decreases-loop
 sub_at c = omega arith
@@ -58,25 +58,25 @@ turn-lt : (l : tie.At-loop invariant-loop decreases-loop) → 0 < l.loop.at → 
 turn-lt l h = simp length-take (omega arith)
 
 -- what stands there before the turn, and what is made of it
-entry-is : (l : tie.At-loop invariant-loop decreases-loop) → 0 < l.loop.at → get_or l.loop.out (turn l) (pos 0) ≡ get_or (values l.before) (turn l) (pos 0)
-entry-is l h = rw l.loop.invariant.4 (lowered-at highest (values l.before) _ l.loop.at (turn l) (omega arith) (turn-lt l h))
+entry_is : (l : tie.At-loop invariant-loop decreases-loop) → 0 < l.loop.at → get_or l.loop.out (turn l) (pos 0) ≡ get_or (values l.before) (turn l) (pos 0)
+entry_is l h = rw l.loop.invariant.4 (lowered_at highest (values l.before) _ l.loop.at (turn l) (omega arith) (turn-lt l h))
 
 value-is : (c : tie.After-smaller invariant-loop decreases-loop) →
     let l = c.before.before.before in
     c.smaller.result ≡ smaller (get_or (values l.before) (turn l) (pos 0)) (to_z w64 l.loop.most)
 value-is c =
     let l = c.before.before.before in
-    rw (← entry-is l (omega arith)) (simp (number-back (get_or l.loop.out (turn l) (pos 0)) c.before.smaller-arg.given) at c.smaller.ensures)
+    rw (← entry_is l (omega arith)) (simp (number_back (get_or l.loop.out (turn l) (pos 0)) c.before.smaller-arg.given) at c.smaller.ensures)
 
 -- which is at most as large as what was asked of it
-value-le : (c : tie.After-smaller invariant-loop decreases-loop) → nat_abs c.smaller.result ≤ nat_abs (to_z w64 c.before.before.before.loop.most)
-value-le c =
+value_le : (c : tie.After-smaller invariant-loop decreases-loop) → nat_abs c.smaller.result ≤ nat_abs (to_z w64 c.before.before.before.loop.most)
+value_le c =
     let l = c.before.before.before in
-    rw (value-is c) (lowered-abs-le (values l.before) (turn l) (to_z w64 l.loop.most) (turn-lt l (omega arith)) l.before.requires.1)
+    rw (value-is c) (lowered_abs_le (values l.before) (turn l) (to_z w64 l.loop.most) (turn-lt l (omega arith)) l.before.requires.1)
 
 sum-requires : tie.Need-sum-requires invariant-loop decreases-loop
 sum-requires c κs =
-    let h : nat_abs (to_z w64 (of_z w64 c.smaller.result)) ≤ 20000000000 = rw (number-back c.smaller.result c.smaller.type-inv) (omega (arith, value-le c)) in
+    let h : nat_abs (to_z w64 (of_z w64 c.smaller.result)) ≤ 20000000000 = rw (number_back c.smaller.result c.smaller.type-inv) (omega (arith, value_le c)) in
     (h, omega arith)
 
 loop-less : tie.Need-loop-smaller invariant-loop decreases-loop
@@ -88,11 +88,11 @@ loop-again c =
     let l = v.before.before.before in
     let L = l.loop in
     let y = to_z w64 (of_z w64 v.smaller.result) in
-    let r : y ≡ v.smaller.result = number-back v.smaller.result v.smaller.type-inv in
-    let next : to_z w64 (of_z w64 c.sum.result) ≡ y -ℤ spacing = number-back c.sum.result c.sum.type-inv ∙ c.sum.ensures in
+    let r : y ≡ v.smaller.result = number_back v.smaller.result v.smaller.type-inv in
+    let next : to_z w64 (of_z w64 c.sum.result) ≡ y -ℤ spacing = number_back c.sum.result c.sum.type-inv ∙ c.sum.ensures in
     let q = r ∙ value-is v ∙ ap (smaller (get_or (values l.before) (turn l) (pos 0))) L.invariant.3 in
-    let n = lowered-more highest (values l.before) (drop 10 l.before.args.out.now) L.at (turn l) (omega arith) (turn-lt l (omega arith)) y q in
-    (omega arith, search rules, rw (next, r) (omega (arith, value-le v, abs-add-le v.smaller.result (neg_ℤ spacing))), next ∙ n.0, rw L.invariant.4 n.1)
+    let n = lowered_more highest (values l.before) (drop 10 l.before.args.out.now) L.at (turn l) (omega arith) (turn-lt l (omega arith)) y q in
+    (omega arith, search rules, rw (next, r) (omega (arith, value_le v, abs_add_le v.smaller.result (neg_ℤ spacing))), next ∙ n.0, rw L.invariant.4 n.1)
 
 same_length : tie.Need-same-length invariant-loop decreases-loop
 same_length c = omega arith

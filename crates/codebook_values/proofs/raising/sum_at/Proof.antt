@@ -4,11 +4,11 @@ use mathlib.Core.Bool.{true}
 use lib.IntN.{ℤ, pos}
 use lib.ListN.{get_or}
 use native.Mathlib.Omega.{arith}
-use Rattle.codebook.specs.Rows.{lsfFits, all_fit}
+use Rattle.codebook.specs.Rows.{lsf_fits, all_fit}
 use Rattle.codebook.proofs.Entries.{fit_at}
-use Rattle.codebook_values.proofs.FourRows.{and-four}
-use Rattle.codebook_values.proofs.Sizes.{number-back, lsf-back}
-use Rattle.codebook_values.proofs.Sums.{four-at}
+use Rattle.codebook_values.proofs.FourRows.{and_four}
+use Rattle.codebook_values.proofs.Sizes.{number_back, lsf_back}
+use Rattle.codebook_values.proofs.Sums.{four_at}
 use Rattle.codebook_values.proofs.raising.sum_at.Statement.{statement}
 use Rattle.codebook_values.proofs.raising.sum_at.Tie as tie
 
@@ -49,21 +49,21 @@ entry-c s = get_or s.args.c.now s.args.k (pos 0)
 abbrev entry-d : tie.Start → ℤ
 entry-d s = get_or s.args.d.now s.args.k (pos 0)
 
-fit : (s : tie.Start) → (lsfFits (entry-a s) ≡ true) × (lsfFits (entry-b s) ≡ true) × (lsfFits (entry-c s) ≡ true) × (lsfFits (entry-d s) ≡ true)
+fit : (s : tie.Start) → (lsf_fits (entry-a s) ≡ true) × (lsf_fits (entry-b s) ≡ true) × (lsf_fits (entry-c s) ≡ true) × (lsf_fits (entry-d s) ≡ true)
 fit s =
     let a = s.args in
-    let e = and-four (all_fit lsfFits a.a.now) (all_fit lsfFits a.b.now) (all_fit lsfFits a.c.now) (all_fit lsfFits a.d.now) s.requires.1 in (
-      fit_at lsfFits a.a.now a.k s.requires.0.0 e.0,
-      fit_at lsfFits a.b.now a.k s.requires.0.1 e.1,
-      fit_at lsfFits a.c.now a.k s.requires.0.2 e.2,
-      fit_at lsfFits a.d.now a.k s.requires.0.3 e.3,
+    let e = and_four (all_fit lsf_fits a.a.now) (all_fit lsf_fits a.b.now) (all_fit lsf_fits a.c.now) (all_fit lsf_fits a.d.now) s.requires.1 in (
+      fit_at lsf_fits a.a.now a.k s.requires.0.0 e.0,
+      fit_at lsf_fits a.b.now a.k s.requires.0.1 e.1,
+      fit_at lsf_fits a.c.now a.k s.requires.0.2 e.2,
+      fit_at lsf_fits a.d.now a.k s.requires.0.3 e.3,
     )
 
 four-sum-requires : tie.Need-four-sum-requires
 four-sum-requires c κs =
     let s = c.before.before.before.before in
     let f = fit s in
-    simp (lsf-back (entry-a s) f.0, lsf-back (entry-b s) f.1, lsf-back (entry-c s) f.2, lsf-back (entry-d s) f.3) f
+    simp (lsf_back (entry-a s) f.0, lsf_back (entry-b s) f.1, lsf_back (entry-c s) f.2, lsf_back (entry-d s) f.3) f
 
 returns : tie.Need-returns
 returns c =
@@ -71,9 +71,9 @@ returns c =
     let a = s.args in
     let f = fit s in
     let p = s.requires.0 in
-    let e = simp (lsf-back (entry-a s) f.0, lsf-back (entry-b s) f.1, lsf-back (entry-c s) f.2, lsf-back (entry-d s) f.3) at c.four-sum.ensures.0 in
-    simp (number-back c.four-sum.result c.four-sum.type-inv)
-    (e ∙ sym (four-at a.a.now a.b.now a.c.now a.d.now a.k p.0 p.1 p.2 p.3), c.four-sum.ensures.1)
+    let e = simp (lsf_back (entry-a s) f.0, lsf_back (entry-b s) f.1, lsf_back (entry-c s) f.2, lsf_back (entry-d s) f.3) at c.four-sum.ensures.0 in
+    simp (number_back c.four-sum.result c.four-sum.type-inv)
+    (e ∙ sym (four_at a.a.now a.b.now a.c.now a.d.now a.k p.0 p.1 p.2 p.3), c.four-sum.ensures.1)
 
 pub sum-at-spec : {M : Type 1} → statement M
 sum-at-spec =

@@ -6,10 +6,10 @@ use lib.ListN.{length, take, drop}
 use lib.Seq.{take_at, drop_at}
 use lib.IntN.{ℤ}
 use borrow.Author.Rules.{rules}
-use Rattle.codebook_values.specs.Values.{addedFour, spacing, raised, highest, lowered}
-use Rattle.codebook_values.proofs.RaisedTurns.{raised-length}
-use Rattle.codebook_values.proofs.Spaced.{raised-spaced}
-use Rattle.codebook_values.proofs.Sums.{four-length}
+use Rattle.codebook_values.specs.Values.{added_four, spacing, raised, highest, lowered}
+use Rattle.codebook_values.proofs.RaisedTurns.{raised_length}
+use Rattle.codebook_values.proofs.Spaced.{raised_spaced}
+use Rattle.codebook_values.proofs.Sums.{four_length}
 use Rattle.codebook_values.proofs.values.write_values.Statement.{statement}
 use Rattle.codebook_values.proofs.values.write_values.Tie as tie
 
@@ -18,10 +18,10 @@ write-raised-requires c κs = search rules
 
 -- the raised sums, and that there are ten
 abbrev front : tie.Start → List ℤ
-front s = raised spacing (addedFour s.args.a.now s.args.b.now s.args.c.now s.args.d.now)
+front s = raised spacing (added_four s.args.a.now s.args.b.now s.args.c.now s.args.d.now)
 
 ten : (s : tie.Start) → length (front s) ≡ 10
-ten s = let p = s.requires.0 in raised-length spacing _ ∙ four-length 10 _ _ _ _ p.0 p.1 p.2 p.3
+ten s = let p = s.requires.0 in raised_length spacing _ ∙ four_length 10 _ _ _ _ p.0 p.1 p.2 p.3
 
 -- they are what is found in front of the output after raising
 taken : (s : tie.Start) (out : List ℤ) → out ≡ front s ++ drop 10 s.args.out.now → take 10 out ≡ front s
@@ -34,7 +34,7 @@ dropped s out e = ap (drop 10) e ∙ drop_at (front s) (drop 10 s.args.out.now) 
 lower-requires : tie.Need-lower-requires
 lower-requires c κs =
     let w = c.before.before in
-    (omega arith, rw (taken w.before.before _ w.write-raised.ensures) (raised-spaced spacing _))
+    (omega arith, rw (taken w.before.before _ w.write-raised.ensures) (raised_spaced spacing _))
 
 same_length : tie.Need-same-length
 same_length c = search rules

@@ -7,9 +7,9 @@ use lib.ListN.{length, take, drop}
 use lib.IntN.{pos}
 use borrow.Author.Rules.{rules}
 use borrow.Author.Tests.{eq-eqb, ne_eqb}
-use Rattle.bits.proofs.Front.{front-more, front-all}
-use Rattle.codebook_values.proofs.Sizes.{number-back}
-use Rattle.codebook_values.proofs.Answers.{written-owes, seven-owes}
+use Rattle.bits.proofs.Front.{front_more, front_all}
+use Rattle.codebook_values.proofs.Sizes.{number_back}
+use Rattle.codebook_values.proofs.Answers.{written_owes, seven_owes}
 use Rattle.codebook_values.proofs.writing.write_row.Statement.{statement}
 use Rattle.codebook_values.proofs.writing.write_row.Tie as tie
 
@@ -22,7 +22,7 @@ decreases-loop row out₀ i₀ out i = 10 - i
 returns : tie.Need-returns invariant-loop decreases-loop
 returns c =
     let a = c.before.args in
-    seven-owes a.row.now a.out.now _ (ne_eqb _ 10 c.if1.true)
+    seven_owes a.row.now a.out.now _ (ne_eqb _ 10 c.if1.true)
 
 loop-holds : tie.Need-loop-init invariant-loop decreases-loop
 loop-holds c = search rules
@@ -51,20 +51,20 @@ loop-again c =
     let a = c.before.before.before.before.args in
     let h : L.i < length a.out.now = omega arith in
     let m : L.i < length a.row.now = omega arith in
-    (omega arith, search rules, rw (L.invariant.2, number-back _ c.out.given) (front-more a.row.now a.out.now L.i (pos 0) h m))
+    (omega arith, search rules, rw (L.invariant.2, number_back _ c.out.given) (front_more a.row.now a.out.now L.i (pos 0) h m))
 
 same_length : tie.Need-same-length invariant-loop decreases-loop
 same_length c = omega arith
 
-returns-2 : tie.Need-returns-2 invariant-loop decreases-loop
-returns-2 c =
+returns_2 : tie.Need-returns-2 invariant-loop decreases-loop
+returns_2 c =
     let L = c.before.loop in
     let e = c.before.before in
     let a = e.before.args in
-    let w = front-all a.row.now a.out.now L.out L.i 10 L.invariant.2 (omega arith) (omega arith) in
-    written-owes a.row.now a.out.now _ (eq-eqb _ 10 e.if1.false) _ w
+    let w = front_all a.row.now a.out.now L.out L.i 10 L.invariant.2 (omega arith) (omega arith) in
+    written_owes a.row.now a.out.now _ (eq-eqb _ 10 e.if1.false) _ w
 
 pub write-row-spec : {M : Type 1} → statement M
 write-row-spec =
     tie.close
-    (tie.spec invariant-loop decreases-loop returns loop-holds mul-out shared-slice-copy-out-out mul-t10 slice-set-from-out add-i loop-less loop-again same_length returns-2)
+    (tie.spec invariant-loop decreases-loop returns loop-holds mul-out shared-slice-copy-out-out mul-t10 slice-set-from-out add-i loop-less loop-again same_length returns_2)

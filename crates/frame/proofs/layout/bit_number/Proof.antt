@@ -6,8 +6,8 @@ use Rattle.frame.proofs.layout.bit_number.Tie as tie
 returns : tie.Need-returns
 returns c = search rules
 
-returns-2 : tie.Need-returns-2
-returns-2 c = search rules
+returns_2 : tie.Need-returns-2
+returns_2 c = search rules
 
 pub bit-number-spec : {M : Type 1} → statement M
-bit-number-spec = tie.close (tie.spec returns returns-2)
+bit-number-spec = tie.close (tie.spec returns returns_2)

@@ -2,7 +2,7 @@
 use mathlib.Core.Path.{◌≡◌, sym, ap, ◌∙◌}
 use native.Mathlib.Omega.{arith}
 use Rattle.pitch.specs.Pitch.{code_of, code_in}
-use Rattle.pitch.proofs.Answers.{code-in-is}
+use Rattle.pitch.proofs.Answers.{code_in_is}
 use Rattle.frame.proofs.layout.code_of.Statement.{statement}
 use Rattle.frame.proofs.layout.code_of.Tie as tie
 
@@ -17,13 +17,13 @@ enum_told c = omega arith
 
 -- the code in the call's answer is that of the index
 answered : (c : tie.After-encode) → code_in c.encode.result ≡ code_of c.before.args.index
-answered c = ap code_in c.encode.ensures ∙ code-in-is c.before.args.index c.before.requires
+answered c = ap code_in c.encode.ensures ∙ code_in_is c.before.args.index c.before.requires
 
 returns : tie.Need-returns
 returns c = ap code_in (sym c.before.code.given.1) ∙ answered c.before.before.before
 
-returns-2 : tie.Need-returns-2
-returns-2 c = ap code_in (sym c.enum_told.given.1) ∙ answered c.before.before
+returns_2 : tie.Need-returns-2
+returns_2 c = ap code_in (sym c.enum_told.given.1) ∙ answered c.before.before
 
 pub code-of-spec : {M : Type 1} → statement M
-code-of-spec = tie.close (tie.spec encode-requires enum-known-code enum_told returns returns-2)
+code-of-spec = tie.close (tie.spec encode-requires enum-known-code enum_told returns returns_2)

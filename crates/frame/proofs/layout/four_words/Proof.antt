@@ -1,7 +1,7 @@
 -- `frame::layout::four_words` meets its contract: the parts are joined from the first on. Assumes nothing.
 use mathlib.Core.Path.{sym, ◌∙◌}
 use native.Mathlib.Omega.{arith}
-use Rattle.frame.proofs.Numbers.{words-value}
+use Rattle.frame.proofs.Numbers.{words_value}
 use Rattle.frame.proofs.layout.four_words.Statement.{statement}
 use Rattle.frame.proofs.layout.four_words.Tie as tie
 
@@ -42,7 +42,7 @@ returns : tie.Need-returns
 returns c =
     let s = c.before.before.before.before.before.before in
     let a = s.args in (
-      c.joined.ensures.0 ∙ sym (words-value a.x s.requires.0.0 s.requires.0.1 s.requires.0.2 a.pa a.pb a.pc a.pd s.requires.1.0 s.requires.1.1
+      c.joined.ensures.0 ∙ sym (words_value a.x s.requires.0.0 s.requires.0.1 s.requires.0.2 a.pa a.pb a.pc a.pd s.requires.1.0 s.requires.1.1
           s.requires.1.2 s.requires.1.3),
       c.joined.ensures.1,
     )

@@ -3,7 +3,7 @@ use mathlib.Core.Path.{sym, ap, ◌∙◌}
 use Prim.Native.Nat.{ℕ, ◌+◌, ◌*◌}
 use native.Mathlib.Omega.{arith}
 use borrow.Author.Rules.{rules}
-use Rattle.frame.proofs.Numbers.{others-value}
+use Rattle.frame.proofs.Numbers.{others_value}
 use Rattle.frame.proofs.layout.other_bits.Statement.{statement}
 use Rattle.frame.proofs.layout.other_bits.Tie as tie
 
@@ -48,7 +48,7 @@ returns c =
     let s = c.before.before.before.before in
     let a = s.args in (
       ap (λ (n : ℕ). (a.code * 262144 + ((a.x.l2 * 64 + a.x.l3) * 64 + a.x.l4)) * 2 + n) c.bit-number.ensures.0
-          ∙ sym (others-value a.x s.requires.0 s.requires.1 s.requires.2 a.code a.sync s.requires.3),
+          ∙ sym (others_value a.x s.requires.0 s.requires.1 s.requires.2 a.code a.sync s.requires.3),
       search rules,
     )
 

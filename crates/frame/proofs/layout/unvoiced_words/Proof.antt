@@ -3,9 +3,9 @@ use mathlib.Core.Path.{refl, ap, ◌∙◌}
 use Prim.Native.Nat.{◌/◌, ◌%◌, ◌*◌, ◌+◌}
 use native.Mathlib.Omega.{arith}
 use Rattle.bits.specs.Bits.{value, bits}
-use Rattle.bits.proofs.Value.{value-bound}
-use Rattle.hamming.specs.Word.{parityOf}
-use Rattle.frame.proofs.Numbers.{unvoiced-words}
+use Rattle.bits.proofs.Value.{value_bound}
+use Rattle.hamming.specs.Word.{parity_of}
+use Rattle.frame.proofs.Numbers.{unvoiced_words_lem}
 use Rattle.frame.proofs.layout.unvoiced_words.Statement.{statement}
 use Rattle.frame.proofs.layout.unvoiced_words.Tie as tie
 
@@ -46,10 +46,10 @@ four-words-requires c κs =
     let x = (start c).args.x in (
       (start c).requires,
       (
-        value-bound 4 (parityOf 8 (bits 4 (x.l1 / 8))) _ refl (at_a c).parity-of.ensures,
-        value-bound 3 (parityOf 6 (bits 3 x.l1)) _ refl (at_b c).parity-of2.ensures,
-        value-bound 3 (parityOf 7 (bits 4 (x.g2 / 2))) _ refl (at_c c).parity-of3.ensures,
-        value-bound 3 (parityOf 7 (bits 4 (x.g2 % 2 * 8 + x.g1))) _ refl c.parity-of4.ensures,
+        value_bound 4 (parity_of 8 (bits 4 (x.l1 / 8))) _ refl (at_a c).parity-of.ensures,
+        value_bound 3 (parity_of 6 (bits 3 x.l1)) _ refl (at_b c).parity-of2.ensures,
+        value_bound 3 (parity_of 7 (bits 4 (x.g2 / 2))) _ refl (at_c c).parity-of3.ensures,
+        value_bound 3 (parity_of 7 (bits 4 (x.g2 % 2 * 8 + x.g1))) _ refl c.parity-of4.ensures,
       ),
     )
 
@@ -58,7 +58,7 @@ returns c =
     let d = c.before in
     let x = (start d).args.x in
     let same =
-    unvoiced-words x (start d).requires.2 _ _ _ _ (at_a d).parity-of.ensures (at_b d).parity-of2.ensures (at_c d).parity-of3.ensures
+    unvoiced_words_lem x (start d).requires.2 _ _ _ _ (at_a d).parity-of.ensures (at_b d).parity-of2.ensures (at_c d).parity-of3.ensures
     d.parity-of4.ensures in
     (c.four-words.ensures.0 ∙ ap value same, c.four-words.ensures.1)
 

@@ -2,7 +2,7 @@
 use mathlib.Core.Path.{ap, ◌∙◌}
 use native.Mathlib.Omega.{arith}
 use Rattle.bits.specs.Bits.{value}
-use Rattle.frame.proofs.Numbers.{voiced-words}
+use Rattle.frame.proofs.Numbers.{voiced_words_lem}
 use Rattle.frame.proofs.layout.voiced_words.Statement.{statement}
 use Rattle.frame.proofs.layout.voiced_words.Tie as tie
 
@@ -18,7 +18,7 @@ four-words-requires c κs = omega arith
 returns : tie.Need-returns
 returns c =
     let a = c.before.before.args in
-    (c.four-words.ensures.0 ∙ ap value (voiced-words a.x a.v c.before.before.requires.1.1), c.four-words.ensures.1)
+    (c.four-words.ensures.0 ∙ ap value (voiced_words_lem a.x a.v c.before.before.requires.1.1), c.four-words.ensures.1)
 
 pub voiced-words-spec : {M : Type 1} → statement M
 voiced-words-spec = tie.close (tie.spec mul-four-words add-four-words four-words-requires returns)

@@ -6,14 +6,14 @@ use borrow.Author.Tests.{not-true, not-false}
 use lib.ListN.{drop}
 use Rattle.bits.specs.Bits.{carried}
 use Rattle.order.specs.declared.Placed.{Placed}
-use Rattle.frame.proofs.Answers.{number-frame, short-owes, set-owes, order-owes, packed-owes}
+use Rattle.frame.proofs.Answers.{number_frame, short_owes, set_owes, order_owes, packed_owes}
 use Rattle.frame.proofs.packing.pack.Statement.{statement}
 use Rattle.frame.proofs.packing.pack.Tie as tie
 
 returns : tie.Need-returns
 returns c =
     let a = c.before.before.before.args in
-    short-owes a.order.now a.set a.sync a.out.now c.if1.true
+    short_owes a.order.now a.set a.sync a.out.now c.if1.true
 
 is-sendable-requires : tie.Need-is-sendable-requires
 is-sendable-requires c κs = tt
@@ -21,11 +21,11 @@ is-sendable-requires c κs = tt
 set-refusal-requires : tie.Need-set-refusal-requires
 set-refusal-requires c κs = tt
 
-returns-2 : tie.Need-returns-2
-returns-2 c =
+returns_2 : tie.Need-returns-2
+returns_2 c =
     let tested = c.before.before in
     let a = tested.before.before.before.before.args in
-    set-owes a.order.now a.set a.sync a.out.now tested.before.if1.false (sym tested.is-sendable.ensures ∙ not-true tested.is-sendable.result c.before.if2.true)
+    set_owes a.order.now a.set a.sync a.out.now tested.before.if1.false (sym tested.is-sendable.ensures ∙ not-true tested.is-sendable.result c.before.if2.true)
     c.set-refusal.result c.set-refusal.ensures
 
 logical-number-requires : tie.Need-logical-number-requires
@@ -39,7 +39,7 @@ returns-3 c =
     let placed = c.before.before in
     let sends = placed.before.before in
     let a = sends.before.before.before.before.before.args in
-    order-owes a.order.now a.set a.sync a.out.now sends.before.before.if1.false (sym sends.before.is-sendable.ensures ∙ not-false sends.before.is-sendable.result sends.if2.false)
+    order_owes a.order.now a.set a.sync a.out.now sends.before.before.if1.false (sym sends.before.is-sendable.ensures ∙ not-false sends.before.is-sendable.result sends.if2.false)
     (carried 54 placed.before.logical-number.result) placed.place-bits.result.refusal (ap (λ (x : Placed). x.refusal) (sym placed.place-bits.ensures))
     c.if3.true
 
@@ -57,9 +57,9 @@ returns-4 c =
     let sends = placed.before.before in
     let a = sends.before.before.before.before.before.args in
     let number = placed.before.logical-number in
-    packed-owes a.order.now a.set a.sync a.out.now sends.before.before.if1.false (sym sends.before.is-sendable.ensures ∙ not-false sends.before.is-sendable.result sends.if2.false)
+    packed_owes a.order.now a.set a.sync a.out.now sends.before.before.if1.false (sym sends.before.is-sendable.ensures ∙ not-false sends.before.is-sendable.result sends.if2.false)
     (carried 54 number.result) (ap (λ (x : Placed). x.refusal) (sym placed.place-bits.ensures) ∙ known.if3.false)
-    (number-frame a.order.now a.set a.sync number.result number.ensures) _
+    (number_frame a.order.now a.set a.sync number.result number.ensures) _
     (written.write-front.ensures ∙ ap (λ (x : Placed). x.bytes ++ drop 7 a.out.now) placed.place-bits.ensures)
 
 pub pack-spec : {M : Type 1} → statement M
@@ -69,7 +69,7 @@ pack-spec =
     returns
     is-sendable-requires
     set-refusal-requires
-    returns-2
+    returns_2
     logical-number-requires
     place-bits-requires
     returns-3

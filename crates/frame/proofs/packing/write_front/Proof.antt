@@ -5,7 +5,7 @@ use Prim.Native.Nat.{ℕ, ◌-◌, ◌≤◌, ◌<◌}
 use native.Mathlib.Omega.{arith}
 use lib.ListN.{length, get_or, take, drop, set}
 use borrow.Author.Rules.{rules}
-use Rattle.bits.proofs.Front.{front-more, front-all}
+use Rattle.bits.proofs.Front.{front_more, front_all}
 use Rattle.frame.proofs.packing.write_front.Statement.{statement}
 use Rattle.frame.proofs.packing.write_front.Tie as tie
 
@@ -37,7 +37,7 @@ loop-again c =
     let o = c.before.before.args.out.now in
     let h : L.i < length o = omega arith in
     let m : L.i < length f = omega arith in
-    (search rules, search rules, ap (λ (t : List ℕ). set t L.i (get_or f L.i 0)) L.invariant.2 ∙ front-more f o L.i 0 h m, search rules)
+    (search rules, search rules, ap (λ (t : List ℕ). set t L.i (get_or f L.i 0)) L.invariant.2 ∙ front_more f o L.i 0 h m, search rules)
 
 same_length : tie.Need-same-length invariant-loop decreases-loop
 same_length c = omega arith
@@ -46,7 +46,7 @@ returns : tie.Need-returns invariant-loop decreases-loop
 returns c =
     let L = c.before.loop in
     let s = c.before.before.args in
-    front-all s.t2 s.out.now L.out L.i 7 L.invariant.2 (omega arith) (omega arith)
+    front_all s.t2 s.out.now L.out L.i 7 L.invariant.2 (omega arith) (omega arith)
 
 pub write-front-spec : {M : Type 1} → statement M
 write-front-spec = tie.close (tie.spec invariant-loop decreases-loop loop-holds array-read-out slice-write-out add-i loop-less loop-again same_length returns)

@@ -9,10 +9,10 @@ use lib.ListN.{length, length-map}
 use denote.Enum.Declared.{tag_of}
 use mir.Syntax.{w8}
 use borrow.Kind.Array.{e_int, good_length}
-use Rattle.session.specs.Format.{mostFrames}
+use Rattle.session.specs.Format.{most_frames}
 use Rattle.session_reader.specs.contracts.Answer.{the_type as Answer·type}
 use Rattle.session_reader.specs.declared.Answer.TheVariants.{Frame}
-use Rattle.from_session.proofs.Turns.{SoFar, none_yet, stop_owes, frame-more, last-owes}
+use Rattle.from_session.proofs.Turns.{SoFar, none_yet, stop_owes, frame_more, last_owes}
 use Rattle.from_session.proofs.frames.copy_frames.Statement.{statement}
 use Rattle.from_session.proofs.frames.copy_frames.Tie as tie
 
@@ -20,7 +20,7 @@ abbrev invariant-loop : tie.invariant-loop
 invariant-loop text out₀ at₀ k₀ out at k = SoFar text out₀ at k out
 
 abbrev decreases-loop : tie.decreases-loop
-decreases-loop text out₀ at₀ k₀ out at k = mostFrames - k
+decreases-loop text out₀ at₀ k₀ out at k = most_frames - k
 
 loop-holds : tie.Need-loop-init invariant-loop decreases-loop
 loop-holds c =
@@ -76,21 +76,21 @@ loop-again c =
     let L = r.before.before.loop in
     let a = r.before.before.before.before.before.args in
     rw add-one
-    (frame-more a.text.now a.out.now L.at L.k L.out L.invariant _ r.read_at.ensures r.before.loop-test.true t.enum_told.given.1 (seven r) _
+    (frame_more a.text.now a.out.now L.at L.k L.out L.invariant _ r.read_at.ensures r.before.loop-test.true t.enum_told.given.1 (seven r) _
     p.put-frame.ensures)
 
 read-at-requires-2 : tie.Need-read-at-requires-2 invariant-loop decreases-loop
 read-at-requires-2 c κs = tt
 
-same-length-2 : tie.Need-same-length-2 invariant-loop decreases-loop
-same-length-2 c = c.before.before.loop.invariant.size
+same_length_2 : tie.Need-same-length-2 invariant-loop decreases-loop
+same_length_2 c = c.before.before.loop.invariant.size
 
-returns-2 : tie.Need-returns-2 invariant-loop decreases-loop
-returns-2 c =
+returns_2 : tie.Need-returns-2 invariant-loop decreases-loop
+returns_2 c =
     let L = c.before.before.loop in
     let a = c.before.before.before.before.before.args in
-    let e : L.k ≡ mostFrames = omega (arith, c.before.loop-test.false, L.invariant) in
-    rw e at (last-owes a.text.now a.out.now L.at L.k L.out L.invariant _ c.read-at2.ensures (omega arith))
+    let e : L.k ≡ most_frames = omega (arith, c.before.loop-test.false, L.invariant) in
+    rw e at (last_owes a.text.now a.out.now L.at L.k L.out L.invariant _ c.read-at2.ensures (omega arith))
 
 pub copy-frames-spec : {M : Type 1} → statement M
 copy-frames-spec =
@@ -110,5 +110,5 @@ copy-frames-spec =
     loop-less
     loop-again
     read-at-requires-2
-    same-length-2
-    returns-2)
+    same_length_2
+    returns_2)

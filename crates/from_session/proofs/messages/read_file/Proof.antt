@@ -2,7 +2,7 @@
 use mathlib.Core.Path.{refl}
 use native.Mathlib.Omega.{arith}
 use Rattle.session_reader.specs.declared.Answer.TheVariants.{Frame, End}
-use Rattle.from_session.proofs.Answers.{refusal-owes, other-owes}
+use Rattle.from_session.proofs.Answers.{refusal_owes, other_owes}
 use Rattle.from_session.proofs.messages.read_file.Statement.{statement}
 use Rattle.from_session.proofs.messages.read_file.Tie as tie
 
@@ -31,8 +31,8 @@ enum-told-2 c = omega arith
 same_length : tie.Need-same-length
 same_length c = omega arith
 
-same-length-2 : tie.Need-same-length-2
-same-length-2 c = omega arith
+same_length_2 : tie.Need-same-length-2
+same_length_2 c = omega arith
 
 returns : tie.Need-returns
 returns c =
@@ -41,17 +41,17 @@ returns c =
     let f = t.before.before.before.before in
     let s = begun f in
     let a = s.args in
-    refusal-owes a.input.now a.size s.pre.0.0 a.out.now _ _ _ f.copy-frames.ensures _ _ t.answer.given.1 a.message.now _ _ m.write-message.ensures
+    refusal_owes a.input.now a.size s.pre.0.0 a.out.now _ _ _ f.copy-frames.ensures _ _ t.answer.given.1 a.message.now _ _ m.write-message.ensures
 
 same-length-3 : tie.Need-same-length-3
 same-length-3 c = omega arith
 
-returns-2 : tie.Need-returns-2
-returns-2 c =
+returns_2 : tie.Need-returns-2
+returns_2 c =
     let f = c.before.before.before.before in
     let s = begun f in
     let a = s.args in
-    other-owes a.input.now a.size s.pre.0.0 a.out.now _ _ _ f.copy-frames.ensures End refl c.enum_told.given.1 a.message.now
+    other_owes a.input.now a.size s.pre.0.0 a.out.now _ _ _ f.copy-frames.ensures End refl c.enum_told.given.1 a.message.now
 
 same-length-4 : tie.Need-same-length-4
 same-length-4 c = omega arith
@@ -61,7 +61,7 @@ returns-3 c =
     let f = c.before.before.before.before in
     let s = begun f in
     let a = s.args in
-    other-owes a.input.now a.size s.pre.0.0 a.out.now _ _ _ f.copy-frames.ensures Frame refl c.enum-told2.given.1 a.message.now
+    other_owes a.input.now a.size s.pre.0.0 a.out.now _ _ _ f.copy-frames.ensures Frame refl c.enum-told2.given.1 a.message.now
 
 pub read-file-spec : {M : Type 1} → statement M
 read-file-spec =
@@ -74,9 +74,9 @@ read-file-spec =
     enum_told
     enum-told-2
     same_length
-    same-length-2
+    same_length_2
     returns
     same-length-3
-    returns-2
+    returns_2
     same-length-4
     returns-3)

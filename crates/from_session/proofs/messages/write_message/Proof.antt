@@ -6,10 +6,10 @@ use native.Mathlib.Omega.{arith}
 use lib.ListN.{length, length-append}
 use Rattle.text.specs.Text.{ascii, decimal, field}
 use Rattle.text.specs.Placing.{PutIfRoom}
-use Rattle.text.proofs.Decimals.{decimal-length}
-use Rattle.text.proofs.Answers.{owed-put}
-use Rattle.text.proofs.Puts.{put-if-room-append}
-use Rattle.from_session.specs.Output.{refusalLine}
+use Rattle.text.proofs.Decimals.{decimal_length}
+use Rattle.text.proofs.Answers.{owed_put}
+use Rattle.text.proofs.Puts.{put_if_room_append}
+use Rattle.from_session.specs.Output.{refusal_line}
 use Rattle.from_session.proofs.messages.write_message.Statement.{statement}
 use Rattle.from_session.proofs.messages.write_message.Tie as tie
 
@@ -34,20 +34,20 @@ module _ (c : tie.After-end-of3) where
   begun = first.before.before.before
 
   -- what they put
-  whole : PutIfRoom begun.args.out.now 0 (refusalLine begun.args.n begun.args.line) ended.place.last.1.0 c.end-of3.result
-  unfolding refusalLine
+  whole : PutIfRoom begun.args.out.now 0 (refusal_line begun.args.n begun.args.line) ended.place.last.1.0 c.end-of3.result
+  unfolding refusal_line
   whole =
       let out = begun.args.out.now in
       let number = field "refused=" (decimal begun.args.n) in
       let line = field " line=" (decimal begun.args.line) in
-      let p = owed-put number 0 out _ _ _ first.number.ensures numbered.end_of_lem.ensures in
-      let q = owed-put line _ _ _ _ _ second.number2.ensures lined.end-of2.ensures in
-      let r = owed-put (ascii "\n") _ _ _ _ _ ended.place.ensures c.end-of3.ensures in
-      put-if-room-append out _ _ 0 _ _ number (line ++ ascii "\n") p (put-if-room-append _ _ _ _ _ _ line (ascii "\n") q r)
+      let p = owed_put number 0 out _ _ _ first.number.ensures numbered.end_of_lem.ensures in
+      let q = owed_put line _ _ _ _ _ second.number2.ensures lined.end-of2.ensures in
+      let r = owed_put (ascii "\n") _ _ _ _ _ ended.place.ensures c.end-of3.ensures in
+      put_if_room_append out _ _ 0 _ _ number (line ++ ascii "\n") p (put_if_room_append _ _ _ _ _ _ line (ascii "\n") q r)
 
   -- that is at most 23 bytes
-  short : length (refusalLine begun.args.n begun.args.line) ≤ 23
-  unfolding refusalLine
+  short : length (refusal_line begun.args.n begun.args.line) ≤ 23
+  unfolding refusal_line
   short =
       let s = begun in
       let n = decimal s.args.n in
@@ -56,8 +56,8 @@ module _ (c : tie.After-end-of3) where
         arith,
         length-append n (field " line=" line ++ ascii "\n"),
         length-append line (ascii "\n"),
-        decimal-length 2 s.args.n (omega (arith, s.fits.n)),
-        decimal-length 4 s.args.line (omega (arith, s.fits.line)),
+        decimal_length 2 s.args.n (omega (arith, s.fits.n)),
+        decimal_length 4 s.args.line (omega (arith, s.fits.line)),
       )
 
 number-requires : tie.Need-number-requires

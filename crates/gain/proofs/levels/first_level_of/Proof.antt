@@ -2,8 +2,8 @@
 use Prim.Native.Nat.{◌-◌, ◌*◌, ◌≤◌}
 use native.Mathlib.Nat.{mul-le-mul}
 use native.Mathlib.Omega.{arith}
-use Rattle.gain.specs.Levels.{firstLevel}
-use Rattle.gain.proofs.FirstLevel.{first-is}
+use Rattle.gain.specs.Levels.{first_level}
+use Rattle.gain.proofs.FirstLevel.{first_is}
 use Rattle.gain.proofs.levels.first_level_of.Statement.{statement}
 use Rattle.gain.proofs.levels.first_level_of.Tie as tie
 
@@ -15,7 +15,7 @@ mean-level-requires : tie.Need-mean-level-requires
 mean-level-requires c κs = tt
 
 returns : tie.Need-returns
-unfolding firstLevel
+unfolding first_level
 returns c = simp (c.before.if1.true, c.mean-level.ensures)
 
 level-of-requires : tie.Need-level-of-requires
@@ -42,11 +42,11 @@ mul-result c = omega (arith, steps-fit c)
 add-result : tie.Need-overflow-add-result
 add-result c = omega (arith, steps-fit c)
 
-returns-2 : tie.Need-returns-2
-returns-2 c =
+returns_2 : tie.Need-returns-2
+returns_2 c =
     let a = c.before.before.before.before.before.args in
     let l = c.before.before.before in
-    let f = first-is a.g2 a.q a.code l.before.if1.false in
+    let f = first_is a.g2 a.q a.code l.before.if1.false in
     simp (f, c.before.smaller.ensures, c.before.before.level-of2.ensures, l.level-of.ensures, c.first_step.ensures)
 
 pub first-level-of-spec : {M : Type 1} → statement M
@@ -63,4 +63,4 @@ first-level-of-spec =
     first-step-requires
     mul-result
     add-result
-    returns-2)
+    returns_2)

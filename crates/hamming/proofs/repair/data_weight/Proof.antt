@@ -7,8 +7,8 @@ use Rattle.hamming.proofs.repair.data_weight.Tie as tie
 returns : tie.Need-returns
 returns c = (simp (eq-eqb _ _ c.if1.true), omega arith)
 
-returns-2 : tie.Need-returns-2
-returns-2 c = (simp (ne_eqb _ _ c.if1.false), omega arith)
+returns_2 : tie.Need-returns-2
+returns_2 c = (simp (ne_eqb _ _ c.if1.false), omega arith)
 
 pub data-weight-spec : {M : Type 1} → statement M
-data-weight-spec = tie.close (tie.spec returns returns-2)
+data-weight-spec = tie.close (tie.spec returns returns_2)

@@ -3,9 +3,9 @@ use mathlib.Core.Path.{◌≡◌, refl, ap, ◌∙◌, sym, subst⁻¹}
 use Prim.Native.Nat.{ℕ}
 use native.Mathlib.Omega.{arith}
 use Rattle.bits.specs.Bits.{bits}
-use Rattle.bits.proofs.Digits.{bits-mod}
-use Rattle.hamming.specs.Word.{length_of, fixOf, decode}
-use Rattle.hamming.specs.Table.{fixRow}
+use Rattle.bits.proofs.Digits.{bits_mod}
+use Rattle.hamming.specs.Word.{length_of, fix_of, decode}
+use Rattle.hamming.specs.Table.{fix_row}
 use Rattle.hamming.specs.declared.WordLength.{WordLength}
 use Rattle.hamming.specs.declared.Decoded.{Decoded}
 use Rattle.hamming.proofs.repair.decode.Statement.{statement}
@@ -22,7 +22,7 @@ array-copy-out-decode-word : tie.Need-array-copy-out-decode-word
 array-copy-out-decode-word c = omega arith
 
 decode-word-requires : tie.Need-decode-word-requires
-unfolding fixRow fixOf
+unfolding fix_row fix_of
 decode-word-requires c κs = (ap length_of (sym c.before.enum_told.given.1), omega arith, refl)
 
 enum-told-2 : tie.Need-enum-told-2
@@ -32,7 +32,7 @@ array-copy-out-decode-word-2 : tie.Need-array-copy-out-decode-word-2
 array-copy-out-decode-word-2 c = omega arith
 
 decode-word-requires-2 : tie.Need-decode-word-requires-2
-unfolding fixRow fixOf
+unfolding fix_row fix_of
 decode-word-requires-2 c κs = (ap length_of (sym c.before.enum-told2.given.1), omega arith, refl)
 
 enum-told-3 : tie.Need-enum-told-3
@@ -42,18 +42,18 @@ array-copy-out-decode-word-3 : tie.Need-array-copy-out-decode-word-3
 array-copy-out-decode-word-3 c = omega arith
 
 decode-word-requires-3 : tie.Need-decode-word-requires-3
-unfolding fixRow fixOf
+unfolding fix_row fix_of
 decode-word-requires-3 c κs = (ap length_of (sym c.before.enum-told3.given.1), omega arith, refl)
 
 returns : tie.Need-returns
 returns c =
     let word = c.before.before.before.before.args.word in
-    subst⁻¹ (Claim c.decode-word.result word) c.before.before.enum_told.given.1 (c.decode-word.ensures ∙ ap (decode 6) (bits-mod 6 word))
+    subst⁻¹ (Claim c.decode-word.result word) c.before.before.enum_told.given.1 (c.decode-word.ensures ∙ ap (decode 6) (bits_mod 6 word))
 
-returns-2 : tie.Need-returns-2
-returns-2 c =
+returns_2 : tie.Need-returns-2
+returns_2 c =
     let word = c.before.before.before.before.args.word in
-    subst⁻¹ (Claim c.decode-word2.result word) c.before.before.enum-told2.given.1 (c.decode-word2.ensures ∙ ap (decode 7) (bits-mod 7 word))
+    subst⁻¹ (Claim c.decode-word2.result word) c.before.before.enum-told2.given.1 (c.decode-word2.ensures ∙ ap (decode 7) (bits_mod 7 word))
 
 returns-3 : tie.Need-returns-3
 returns-3 c =
@@ -74,5 +74,5 @@ decode-spec =
     array-copy-out-decode-word-3
     decode-word-requires-3
     returns
-    returns-2
+    returns_2
     returns-3)

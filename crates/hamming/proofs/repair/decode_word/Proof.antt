@@ -4,17 +4,17 @@ use Prim.Native.Nat.{ℕ, ◌/◌, ◌≤◌, ◌<◌}
 use native.Mathlib.Omega.{arith}
 use lib.ListN.{get_or}
 use Rattle.bits.specs.Bits.{bits}
-use Rattle.hamming.specs.Word.{syndrome, fixOf}
+use Rattle.hamming.specs.Word.{syndrome, fix_of}
 use Rattle.hamming.specs.Table.{entry_of}
 use Rattle.hamming.specs.declared.Decoded.TheVariants.{Read}
-use Rattle.hamming.proofs.Lengths.{length-least, length_most}
+use Rattle.hamming.proofs.Lengths.{length_least, length_most}
 use Rattle.hamming.proofs.Outcomes as outcome
 use Rattle.hamming.proofs.repair.decode_word.Statement.{statement}
 use Rattle.hamming.proofs.repair.decode_word.Tie as tie
 
 -- the length is one of the three
 least : (s : tie.Start) → 6 ≤ s.args.n
-least s = rw s.requires.0 (length-least s.args.length)
+least s = rw s.requires.0 (length_least s.args.length)
 
 most : (s : tie.Start) → s.args.n ≤ 8
 most s = rw s.requires.0 (length_most s.args.length)
@@ -23,13 +23,13 @@ most s = rw s.requires.0 (length_most s.args.length)
 abbrev entry : tie.After-syndrome-of → ℕ
 entry c = get_or c.before.args.t3 c.syndrome-of.result 0
 
-entry-is : (c : tie.After-syndrome-of)
+entry_is : (c : tie.After-syndrome-of)
     → let s = c.before in
-    entry c ≡ entry_of (fixOf s.args.n (syndrome s.args.n (bits s.args.n s.args.word)))
-entry-is c =
+    entry c ≡ entry_of (fix_of s.args.n (syndrome s.args.n (bits s.args.n s.args.word)))
+entry_is c =
     let s = c.before in
     let given = c.syndrome-of.ensures in
-    outcome.entry-is s.args.n (least s) (most s) s.args.word s.args.t3 s.requires.2 c.syndrome-of.result given.0 given.1
+    outcome.entry_is s.args.n (least s) (most s) s.args.word s.args.t3 s.requires.2 c.syndrome-of.result given.0 given.1
 
 syndrome-of-requires : tie.Need-syndrome-of-requires
 syndrome-of-requires c κs = c.requires.0
@@ -47,18 +47,18 @@ returns : tie.Need-returns
 returns c =
     let z = c.before.before in
     let s = z.before in
-    outcome.erase-is s.args.n (least s) (most s) s.args.word s.requires.1 (entry z) (entry-is z) c.if1.true
+    outcome.erase_is s.args.n (least s) (most s) s.args.word s.requires.1 (entry z) (entry_is z) c.if1.true
 
 div-t14 : tie.Need-nonzero-div-t14
 div-t14 c = omega arith
 
-returns-2 : tie.Need-returns-2
-returns-2 c =
+returns_2 : tie.Need-returns-2
+returns_2 c =
     let w = c.before.before in
     let z = w.before in
     let s = z.before in
     ap (λ (x : ℕ). Read (s.args.word / x) 0) w.data-weight.ensures.0
-    ∙ outcome.stand-is s.args.n (least s) (most s) s.args.word s.requires.1 (entry z) (entry-is z) c.if2.true
+    ∙ outcome.stand_is s.args.n (least s) (most s) s.args.word s.requires.1 (entry z) (entry_is z) c.if2.true
 
 -- an entry that is no mark is a bit of the word
 inside : (c : tie.Else2)
@@ -67,7 +67,7 @@ inside : (c : tie.Else2)
 inside c =
     let z = c.before.before.before in
     let s = z.before in
-    outcome.bit-lt s.args.n (least s) (most s) s.args.word s.requires.1 (entry z) (entry-is z) c.before.if1.false c.if2.false
+    outcome.bit_lt s.args.n (least s) (most s) s.args.word s.requires.1 (entry z) (entry_is z) c.before.if1.false c.if2.false
 
 cast-flipped : tie.Need-overflow-cast-flipped
 cast-flipped c = omega (arith, inside c)
@@ -87,10 +87,10 @@ returns-3 c =
     let z = w.before in
     let s = z.before in
     ap (λ (x : ℕ). Read (c.flipped.result / x) 1) w.data-weight.ensures.0
-    ∙ outcome.flip_is s.args.n (least s) (most s) s.args.word s.requires.1 (entry z) (entry-is z) e.if1.false c.before.if2.false
+    ∙ outcome.flip_is s.args.n (least s) (most s) s.args.word s.requires.1 (entry z) (entry_is z) e.if1.false c.before.if2.false
     c.flipped.result c.flipped.ensures
 
 pub decode-word-spec : {M : Type 1} → statement M
 decode-word-spec =
-    tie.close (tie.spec syndrome-of-requires cast-fix array-read-fix data-weight-requires returns div-t14 returns-2 cast-flipped flipped-requires
+    tie.close (tie.spec syndrome-of-requires cast-fix array-read-fix data-weight-requires returns div-t14 returns_2 cast-flipped flipped-requires
     div-t12 returns-3)

@@ -22,8 +22,8 @@ enum-told-4 c = omega arith
 returns : tie.Need-returns
 returns c = search rules
 
-returns-2 : tie.Need-returns-2
-returns-2 c = search rules
+returns_2 : tie.Need-returns-2
+returns_2 c = search rules
 
 returns-3 : tie.Need-returns-3
 returns-3 c = search rules
@@ -32,4 +32,4 @@ returns-4 : tie.Need-returns-4
 returns-4 c = search rules
 
 pub repeat-of-spec : {M : Type 1} → statement M
-repeat-of-spec = tie.close (tie.spec enum_told enum-known-answer enum-told-2 enum-told-3 enum-told-4 returns returns-2 returns-3 returns-4)
+repeat-of-spec = tie.close (tie.spec enum_told enum-known-answer enum-told-2 enum-told-3 enum-told-4 returns returns_2 returns-3 returns-4)

@@ -3,13 +3,13 @@ use mathlib.Core.Path.{◌≡◌, refl, sym, ap, ◌∙◌}
 use Prim.Native.Nat.{◌+◌}
 use native.Mathlib.Omega.{arith}
 use lib.ListN.{length}
-use Rattle.order.specs.Order.{defaultOrder}
-use Rattle.order.proofs.DefaultOrder.{default-order}
-use Rattle.report.specs.Lines.{frameLine}
-use Rattle.receiver.specs.Frames.{answerAt}
-use Rattle.hear.specs.Call.{repeatOf}
-use Rattle.text.proofs.Additions.{line-added}
-use Rattle.receiver.proofs.Frames.{answer-is, next-is}
+use Rattle.order.specs.Order.{default_order}
+use Rattle.order.proofs.DefaultOrder.{default_order_lem}
+use Rattle.report.specs.Lines.{frame_line}
+use Rattle.receiver.specs.Frames.{answer_at}
+use Rattle.hear.specs.Call.{repeat_of}
+use Rattle.text.proofs.Additions.{line_added}
+use Rattle.receiver.proofs.Frames.{answer_is, next_is}
 use Rattle.hear.proofs.frames.take_frame.Statement.{statement}
 use Rattle.hear.proofs.frames.take_frame.Tie as tie
 
@@ -35,7 +35,7 @@ part-receive-end : tie.Need-slice-bounds-receive-end
 part-receive-end c = omega arith
 
 slice-aggregate-receive : tie.Need-slice-aggregate-receive
-slice-aggregate-receive c = sym (ap length c.before.before.default-order.ensures ∙ default-order.size)
+slice-aggregate-receive c = sym (ap length c.before.before.default-order.ensures ∙ default_order_lem.size)
 
 receive-requires : tie.Need-receive-requires
 receive-requires c κs = tt
@@ -67,11 +67,11 @@ returns c =
     let b = a.before in
     let x = r.receive.result in
     let h = rw d.default-order.ensures at r.receive.ensures in
-    let ans = answer-is defaultOrder bytes a.k b.rec x h s.requires.1 in
-    let n : t.repeat-of.result ≡ repeatOf (answerAt defaultOrder bytes a.k) = t.repeat-of.ensures.0 ∙ ap repeatOf ans in
-    let q = line-added (frameLine a.k x.answer) a.out.now _ b.end 144 _ _ l.frame-line.ensures c.end_of_lem.ensures s.requires.0.1 in
+    let ans = answer_is default_order bytes a.k b.rec x h s.requires.1 in
+    let n : t.repeat-of.result ≡ repeat_of (answer_at default_order bytes a.k) = t.repeat-of.ensures.0 ∙ ap repeat_of ans in
+    let q = line_added (frame_line a.k x.answer) a.out.now _ b.end 144 _ _ l.frame-line.ensures c.end_of_lem.ensures s.requires.0.1 in
     let w = rw ans at q in
-    let next = next-is defaultOrder bytes a.k b.rec x h s.requires.1 in
+    let next = next_is default_order bytes a.k b.rec x h s.requires.1 in
     (next, (ap (λ n. b.repeats + n) n, (omega (arith, t.repeat-of.ensures.1, s.requires.0.2), (refl, (w.0, w.1)))))
 
 pub take-frame-spec : {M : Type 1} → statement M

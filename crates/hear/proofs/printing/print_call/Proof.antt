@@ -5,7 +5,7 @@ use Prim.Native.Nat.{ℕ}
 use lib.ListN.{length, take}
 use native.Mathlib.Omega.{arith}
 use Rattle.bits.specs.Lists.{ReadFrom}
-use Rattle.hear.specs.Call.{text, mostBytes, heard, AllPrinted}
+use Rattle.hear.specs.Call.{text, most_bytes, heard, AllPrinted}
 use Rattle.hear.proofs.printing.print_call.Statement.{statement}
 use Rattle.hear.proofs.printing.print_call.Tie as tie
 
@@ -22,16 +22,16 @@ print-text-requires : tie.Need-print-text-requires
 print-text-requires c κs = omega arith
 
 -- what a buffer of that many bytes was read to is what is heard, and its text is what is printed
-read-heard : (buffer input : List ℕ) (size : ℕ) → length buffer ≡ mostBytes → ReadFrom buffer size input → take size buffer ≡ heard input
-read-heard buffer input size e read = read ∙ ap (λ (m : ℕ). take m input) e
+read_heard : (buffer input : List ℕ) (size : ℕ) → length buffer ≡ most_bytes → ReadFrom buffer size input → take size buffer ≡ heard input
+read_heard buffer input size e read = read ∙ ap (λ (m : ℕ). take m input) e
 
-all-printed : (buffer : List ℕ) (size count : ℕ) → length buffer ≡ mostBytes → count ≡ length (text (take size buffer)) → AllPrinted buffer size count
-all-printed buffer size count e h input read = h ∙ ap (λ (l : List ℕ). length (text l)) (read-heard buffer input size e read)
+all_printed : (buffer : List ℕ) (size count : ℕ) → length buffer ≡ most_bytes → count ≡ length (text (take size buffer)) → AllPrinted buffer size count
+all_printed buffer size count e h input read = h ∙ ap (λ (l : List ℕ). length (text l)) (read_heard buffer input size e read)
 
 returns : tie.Need-returns
 returns c =
     let s = c.before.before.before.before.before.before in
-    all-printed s.args.input.now s.args.size _ s.requires.0 c.before.print-text.ensures
+    all_printed s.args.input.now s.args.size _ s.requires.0 c.before.print-text.ensures
 
 pub print-call-spec : {M : Type 1} → statement M
 print-call-spec = tie.close (tie.spec large-buffer-requires slice-aggregate-print-text slice-aggregate-print-text-2 print-text-requires returns)

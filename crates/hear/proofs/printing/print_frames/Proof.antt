@@ -4,10 +4,10 @@ use Prim.Native.Nat.{suc, ◌+◌, ◌-◌, ◌*◌, ◌/◌, ◌≤◌}
 use native.Mathlib.Numerals.{add-one}
 use native.Mathlib.Omega.{arith}
 use lib.ListN.{length}
-use Rattle.order.specs.Order.{defaultOrder}
-use Rattle.receiver.specs.Frames.{answerAt, recordAfter}
-use Rattle.hear.specs.Call.{repeatOf, textBefore, repeatsBefore, Pending}
-use Rattle.hear.proofs.Buffer.{pending-more}
+use Rattle.order.specs.Order.{default_order}
+use Rattle.receiver.specs.Frames.{answer_at, record_after}
+use Rattle.hear.specs.Call.{repeat_of, text_before, repeats_before, Pending}
+use Rattle.hear.proofs.Buffer.{pending_more}
 use borrow.Author.Rules.{rules}
 use Rattle.hear.proofs.printing.print_frames.Statement.{statement}
 use Rattle.hear.proofs.printing.print_frames.Tie as tie
@@ -15,8 +15,8 @@ use Rattle.hear.proofs.printing.print_frames.Tie as tie
 abbrev invariant-loop : tie.invariant-loop
 invariant-loop bytes out₀ end progress₀ k₀ k-end out progress k =
     ((k-end ≡ length bytes / 7) × (k ≤ k-end) × (length out ≡ length out₀))
-    × ((progress.rec ≡ recordAfter defaultOrder bytes k) × (progress.repeats ≡ repeatsBefore bytes k) × (progress.repeats ≤ k))
-    × (Pending (textBefore bytes k) progress.sent.count progress.end out × (progress.end ≤ 65536) × (progress.sent.count + progress.end ≤ 22 + 144 * k))
+    × ((progress.rec ≡ record_after default_order bytes k) × (progress.repeats ≡ repeats_before bytes k) × (progress.repeats ≤ k))
+    × (Pending (text_before bytes k) progress.sent.count progress.end out × (progress.end ≤ 65536) × (progress.sent.count + progress.end ≤ 22 + 144 * k))
 
 abbrev decreases-loop : tie.decreases-loop
 decreases-loop bytes out₀ end progress₀ k₀ k-end out progress k = k-end - k
@@ -25,11 +25,11 @@ begin-requires : tie.Need-begin-requires invariant-loop decreases-loop
 begin-requires c κs = tt
 
 loop-holds : tie.Need-loop-init invariant-loop decreases-loop
-unfolding recordAfter textBefore repeatsBefore
+unfolding record_after text_before repeats_before
 loop-holds c =
     let s = c.before.before.before in
     let b = c.begin.ensures in
-    let w : Pending (textBefore s.args.bytes.now 0) c.begin.result.sent.count c.begin.result.end s.args.out.now =
+    let w : Pending (text_before s.args.bytes.now 0) c.begin.result.sent.count c.begin.result.end s.args.out.now =
     rw b.1.1.0 (rw b.1.1.1 s.requires.2) in
     ((refl, omega arith, refl), (b.0, b.1.0, omega (arith, b.1.0)), (w, omega (arith, w.0), omega (arith, w.0)))
 
@@ -56,7 +56,7 @@ loop-less : tie.Need-loop-smaller invariant-loop decreases-loop
 loop-less c = omega arith
 
 loop-again : tie.Need-loop-preserved invariant-loop decreases-loop
-unfolding textBefore repeatsBefore
+unfolding text_before repeats_before
 loop-again c =
     let t = c.before.before in
     let m = t.before.before in
@@ -65,9 +65,9 @@ loop-again c =
     let bytes = l.before.before.before.before.args.bytes.now in
     let f = t.take-frame.ensures in
     let r = m.make-room.ensures in
-    let n : m.make-room.result.repeats + repeatOf (answerAt defaultOrder bytes L.k) ≡ repeatsBefore bytes (suc L.k) =
-    ap (λ n. n + repeatOf (answerAt defaultOrder bytes L.k)) (r.1.0 ∙ L.invariant.1.1) in
-    let w = pending-more (textBefore bytes L.k) _ _ _ r.1.1.0 _ _ _ f.1.1.1.1.0 in
+    let n : m.make-room.result.repeats + repeat_of (answer_at default_order bytes L.k) ≡ repeats_before bytes (suc L.k) =
+    ap (λ n. n + repeat_of (answer_at default_order bytes L.k)) (r.1.0 ∙ L.invariant.1.1) in
+    let w = pending_more (text_before bytes L.k) _ _ _ r.1.1.0 _ _ _ f.1.1.1.1.0 in
     rw add-one (
       (L.invariant.0.0, omega arith, t.take-frame.auto.1.1.1.0 ∙ L.invariant.0.2),
       (f.0, f.1.0 ∙ n, f.1.1.0),

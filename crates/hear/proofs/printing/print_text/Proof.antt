@@ -4,11 +4,11 @@ use mathlib.Core.List.{List, [], ◌++◌, append-nil}
 use Prim.Native.Nat.{ℕ, ◌+◌, ◌≤◌}
 use native.Mathlib.Omega.{arith}
 use lib.ListN.{length, take, drop}
-use Rattle.report.specs.Lines.{firstLine, lastLine}
-use Rattle.receiver.specs.Frames.{framesIn}
-use Rattle.hear.specs.Call.{leftIn, textBefore, repeatsBefore, text, Pending}
-use Rattle.text.proofs.Additions.{line-added}
-use Rattle.hear.proofs.Buffer.{pending-more, pending_next}
+use Rattle.report.specs.Lines.{first_line, last_line}
+use Rattle.receiver.specs.Frames.{frames_in}
+use Rattle.hear.specs.Call.{left_in, text_before, repeats_before, text, Pending}
+use Rattle.text.proofs.Additions.{line_added}
+use Rattle.hear.proofs.Buffer.{pending_more, pending_next}
 use borrow.Author.Rules.{rules}
 use Rattle.hear.proofs.printing.print_text.Statement.{statement}
 use Rattle.hear.proofs.printing.print_text.Tie as tie
@@ -40,14 +40,14 @@ whole c =
     let m = made c in
     let p = printed m in
     let bytes = (begun c).args.bytes.now in
-    let n = framesIn bytes in
+    let n = frames_in bytes in
     let r = m.make-room.ensures in
-    let count : m.make-room.result.repeats ≡ repeatsBefore bytes n = r.1.0 ∙ p.print-frames.ensures.0 in
-    let last = lastLine n m.make-room.result.repeats (leftIn bytes) in
-    let q = line-added last _ _ m.make-room.result.end 144 _ _ l.last_Line.ensures c.end-of2.ensures (omega (arith, r.1.1.1, full p)) in
+    let count : m.make-room.result.repeats ≡ repeats_before bytes n = r.1.0 ∙ p.print-frames.ensures.0 in
+    let last = last_line n m.make-room.result.repeats (left_in bytes) in
+    let q = line_added last _ _ m.make-room.result.end 144 _ _ l.last_Line.ensures c.end-of2.ensures (omega (arith, r.1.1.1, full p)) in
     let Waits : ℕ → Type 0 =
-    λ (k : ℕ). Pending (textBefore bytes n ++ lastLine n k (leftIn bytes)) m.make-room.result.sent.count c.end-of2.result l.last_Line.new.1.1.1.0 in
-    (subst Waits count (pending-more (textBefore bytes n) _ _ _ r.1.1.0 _ _ _ q.0), q.1)
+    λ (k : ℕ). Pending (text_before bytes n ++ last_line n k (left_in bytes)) m.make-room.result.sent.count c.end-of2.result l.last_Line.new.1.1.1.0 in
+    (subst Waits count (pending_more (text_before bytes n) _ _ _ r.1.1.0 _ _ _ q.0), q.1)
 
 -- the buffer keeps its length
 size-kept : (c : tie.After-end-of2) → length c.before.before.before.last_Line.new.1.1.1.0 ≡ length (begun c).args.out.now
@@ -62,14 +62,14 @@ end-of-requires : tie.Need-end-of-requires
 end-of-requires c κs = tt
 
 print-frames-requires : tie.Need-print-frames-requires
-unfolding textBefore
+unfolding text_before
 print-frames-requires c κs =
     let e = c.before in
     let f = e.before.before.before in
     let s = f.before.before.before.before in
-    let size : length firstLine ≤ 22 = omega arith in
+    let size : length first_line ≤ 22 = omega arith in
     let w = f.first-line.ensures in
-    let q = line-added firstLine s.args.out.now _ 0 22 _ _ (w.0, (w.1, size)) e.end_of_lem.ensures (omega (arith, s.requires)) in
+    let q = line_added first_line s.args.out.now _ 0 22 _ _ (w.0, (w.1, size)) e.end_of_lem.ensures (omega (arith, s.requires)) in
     (s.requires.0, search rules, (omega (arith, q.0.0), q.0.1))
 
 make-room-requires : tie.Need-make-room-requires

@@ -2,9 +2,9 @@
 use mathlib.Core.Path.{◌≡◌, refl, ap, ◌∙◌}
 use Prim.Native.Nat.{◌-◌, ◌%◌, ◌≤◌}
 use native.Mathlib.Omega.{arith}
-use Rattle.order.specs.Carrying.{carriedPlace}
+use Rattle.order.specs.Carrying.{carried_place}
 use Rattle.order.specs.Listing.{named, NamedTo}
-use Rattle.order.proofs.Naming.{named-all}
+use Rattle.order.proofs.Naming.{named_all}
 use Rattle.order.proofs.list.default_order.Statement.{statement}
 use Rattle.order.proofs.list.default_order.Tie as tie
 
@@ -15,7 +15,7 @@ abbrev decreases-loop : tie.decreases-loop
 decreases-loop n₀ n = 54 - n.bit
 
 loop-holds : tie.Need-loop-init invariant-loop decreases-loop
-unfolding carriedPlace named
+unfolding carried_place named
 loop-holds c = (omega arith, refl, (refl, refl))
 
 name-nine-requires : tie.Need-name-nine-requires invariant-loop decreases-loop
@@ -31,7 +31,7 @@ returns : tie.Need-returns invariant-loop decreases-loop
 returns c =
     let L = c.before.before.before.loop in
     let e : L.numbering.bit ≡ 54 = omega arith in
-    L.invariant.2.1 ∙ ap named e ∙ named-all
+    L.invariant.2.1 ∙ ap named e ∙ named_all
 
 pub default-order-spec : {M : Type 1} → statement M
 default-order-spec = tie.close (tie.spec invariant-loop decreases-loop loop-holds name-nine-requires loop-less loop-again returns)

@@ -8,8 +8,8 @@ use lib.Dec.{lit<}
 use lib.ListN.{length, get_or, drop, drop_of_length-le}
 use Rattle.bits.specs.Bits.{bit}
 use Rattle.bits.proofs.Bitwise.{zero_bit}
-use Rattle.order.proofs.Orders.{entry-none}
-use Rattle.order.proofs.Seen.{stands, seen_next, seen-lt, seen-order}
+use Rattle.order.proofs.Orders.{entry_none}
+use Rattle.order.proofs.Seen.{stands, seen_next, seen_lt, seen_order}
 use Rattle.order.proofs.list.each_once.Statement.{statement}
 use Rattle.order.proofs.list.each_once.Tie as tie
 
@@ -29,7 +29,7 @@ shared-slice-read-j c = omega arith
 returns : tie.Need-returns invariant-loop decreases-loop
 returns c =
     let s = c.before.before.before in
-    sym (entry-none s.before.args.order.now s.loop.t (omega arith) (λ h. omega (arith, h)))
+    sym (entry_none s.before.args.order.now s.loop.t (omega arith) (λ h. omega (arith, h)))
 
 cast-seen : tie.Need-overflow-cast-seen invariant-loop decreases-loop
 cast-seen c = omega arith
@@ -50,18 +50,18 @@ loop-again c =
     let h : get_or ord L.t 0 < 54 = omega arith in (
       omega arith,
       L.invariant.1,
-      seen-lt L.seen (get_or ord L.t 0) L.invariant.2 h,
+      seen_lt L.seen (get_or ord L.t 0) L.invariant.2 h,
       λ k q. seen_next k L.seen ord L.t (omega arith) h q ∙ L.invariant.3 k q,
     )
 
-returns-2 : tie.Need-returns-2 invariant-loop decreases-loop
-returns-2 c =
+returns_2 : tie.Need-returns-2 invariant-loop decreases-loop
+returns_2 c =
     let L = c.before.loop in
     let ord = c.before.before.args.order.now in
     let e : L.t ≡ 54 = omega arith in
     let m : length ord ≤ 54 = omega arith in
     let d : drop L.t ord ≡ [] = rw e (drop_of_length-le ord m) in
-    seen-order ord L.seen L.invariant.1 L.invariant.2
+    seen_order ord L.seen L.invariant.1 L.invariant.2
     (λ k h. sym (or-false (bit k L.seen)) ∙ ap (λ (l : List ℕ). bit k L.seen || stands k l) (sym d) ∙ L.invariant.3 k h)
 
 pub each-once-spec : {M : Type 1} → statement M
@@ -78,4 +78,4 @@ each-once-spec =
     add-t
     loop-less
     loop-again
-    returns-2)
+    returns_2)

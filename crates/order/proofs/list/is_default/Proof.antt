@@ -6,10 +6,10 @@ use Prim.Native.Nat.{ℕ, ◌-◌, ◌≤◌}
 use native.Mathlib.Omega.{arith}
 use lib.Dec.{eqb}
 use lib.ListN.{length, drop, drop_of_length-le}
-use Rattle.order.specs.Order.{defaultOrder}
+use Rattle.order.specs.Order.{default_order}
 use Rattle.order.specs.Listing.{same_numbers}
-use Rattle.order.proofs.Naming.{default-length}
-use Rattle.order.proofs.Differing.{differ-next}
+use Rattle.order.proofs.Naming.{default_length}
+use Rattle.order.proofs.Differing.{differ_next}
 use Rattle.order.proofs.list.is_default.Statement.{statement}
 use Rattle.order.proofs.list.is_default.Tie as tie
 
@@ -18,7 +18,7 @@ invariant-loop order list differ₀ t₀ differ t =
     (t ≤ 54)
     × (length order ≡ 54)
     × (length list ≡ 54)
-    × ((eqb differ 0 && same_numbers (drop t order) (drop t list)) ≡ same_numbers order defaultOrder)
+    × ((eqb differ 0 && same_numbers (drop t order) (drop t list)) ≡ same_numbers order default_order)
 
 abbrev decreases-loop : tie.decreases-loop
 decreases-loop order list differ₀ t₀ differ t = 54 - t
@@ -29,7 +29,7 @@ default-order-requires c κs = tt
 loop-holds : tie.Need-loop-init invariant-loop decreases-loop
 loop-holds c =
     let e = c.default-order.ensures in
-    (omega arith, c.before.before.requires, ap (λ (l : List ℕ). length l) e ∙ default-length, ap (same_numbers c.before.before.args.order.now) e)
+    (omega arith, c.before.before.requires, ap (λ (l : List ℕ). length l) e ∙ default_length, ap (same_numbers c.before.before.args.order.now) e)
 
 shared-slice-read-differ : tie.Need-shared-slice-read-differ invariant-loop decreases-loop
 shared-slice-read-differ c = omega arith
@@ -47,7 +47,7 @@ loop-again : tie.Need-loop-preserved invariant-loop decreases-loop
 loop-again c =
     let L = c.before.before.loop in
     let s = c.before.before.before in
-    let next = differ-next L.differ s.before.before.args.order.now s.default-order.result L.t (omega arith) (omega arith) in
+    let next = differ_next L.differ s.before.before.args.order.now s.default-order.result L.t (omega arith) (omega arith) in
     (omega arith, L.invariant.1, L.invariant.2, next ∙ L.invariant.3)
 
 returns : tie.Need-returns invariant-loop decreases-loop

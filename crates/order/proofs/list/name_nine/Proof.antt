@@ -3,7 +3,7 @@ use mathlib.Core.Path.{◌≡◌, refl, ◌∙◌, subst}
 use Prim.Native.Nat.{ℕ, suc, ◌+◌, ◌-◌, ◌≤◌}
 use native.Mathlib.Omega.{arith}
 use Rattle.order.specs.Listing.{NamedTo}
-use Rattle.order.proofs.Carrying.{carried-more, carried-lt}
+use Rattle.order.proofs.Carrying.{carried_more, carried_lt}
 use Rattle.order.proofs.Naming.{named_more}
 use Rattle.order.proofs.list.name_nine.Statement.{statement}
 use Rattle.order.proofs.list.name_nine.Tie as tie
@@ -28,10 +28,10 @@ cast-entries : tie.Need-overflow-cast-entries invariant-loop decreases-loop
 cast-entries c = omega arith
 
 array-write-entries : tie.Need-array-write-entries invariant-loop decreases-loop
-array-write-entries c = omega (arith, carried-lt (c.before.before.before.before.args.from.bit + c.before.before.loop.i))
+array-write-entries c = omega (arith, carried_lt (c.before.before.before.before.args.from.bit + c.before.before.loop.i))
 
 next-place-requires : tie.Need-next-place-requires invariant-loop decreases-loop
-next-place-requires c κs = omega (arith, carried-lt (c.before.before.before.before.args.from.bit + c.before.before.loop.i))
+next-place-requires c κs = omega (arith, carried_lt (c.before.before.before.before.args.from.bit + c.before.before.loop.i))
 
 add-i : tie.Need-overflow-add-i invariant-loop decreases-loop
 add-i c = omega arith
@@ -48,7 +48,7 @@ loop-again c =
     let u = L.invariant.2 in (
       omega arith,
       L.invariant.1,
-      (c.next_place.ensures ∙ carried-more n _ L.place e u.0, named_more n _ L.place L.entries e u.0 u.1),
+      (c.next_place.ensures ∙ carried_more n _ L.place e u.0, named_more n _ L.place L.entries e u.0 u.1),
     )
 
 add-t10 : tie.Need-overflow-add-t10 invariant-loop decreases-loop

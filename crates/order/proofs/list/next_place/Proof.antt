@@ -12,8 +12,8 @@ add-next c = omega arith
 returns : tie.Need-returns
 returns c = rw (le-leb 54 (c.before.args.place + 7) (omega arith)) refl
 
-returns-2 : tie.Need-returns-2
-returns-2 c = rw (lt-leb 54 (c.before.args.place + 7) (omega arith)) refl
+returns_2 : tie.Need-returns-2
+returns_2 c = rw (lt-leb 54 (c.before.args.place + 7) (omega arith)) refl
 
 pub next-place-spec : {M : Type 1} → statement M
-next-place-spec = tie.close (tie.spec add-next returns returns-2)
+next-place-spec = tie.close (tie.spec add-next returns returns_2)

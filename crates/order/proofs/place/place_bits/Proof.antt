@@ -4,12 +4,12 @@ use mathlib.Core.List.{List}
 use Prim.Native.Nat.{ℕ}
 use native.Mathlib.Omega.{arith}
 use Rattle.bits.specs.Bits.{carried}
-use Rattle.bits.proofs.Tests.{T_true, true-T}
-use Rattle.order.specs.Order.{is_order, defaultOrder}
-use Rattle.order.specs.Placing.{placedBits}
-use Rattle.order.proofs.Orders.{length_none, default-is-order}
-use Rattle.order.proofs.Sameness.{same-equal}
-use Rattle.order.proofs.Placing.{none_owes, frame-owes}
+use Rattle.bits.proofs.Tests.{T_true, true_T}
+use Rattle.order.specs.Order.{is_order, default_order}
+use Rattle.order.specs.Placing.{placed_bits}
+use Rattle.order.proofs.Orders.{length_none, default_is_order}
+use Rattle.order.proofs.Sameness.{same_equal}
+use Rattle.order.proofs.Placing.{none_owes, frame_owes}
 use Rattle.order.proofs.place.place_bits.Statement.{statement}
 use Rattle.order.proofs.place.place_bits.Tie as tie
 
@@ -25,15 +25,15 @@ scatter-requires c κs = tt
 seven-bytes-requires : tie.Need-seven-bytes-requires
 seven-bytes-requires c κs = tt
 
-returns-2 : tie.Need-returns-2
-returns-2 c =
+returns_2 : tie.Need-returns-2
+returns_2 c =
     let told = c.before.before.before in
     let a = told.before.before.before.args in
     let g = carried 54 a.bits in
-    let same = same-equal a.order.now defaultOrder (T_true _ (sym told.is-default.ensures ∙ c.before.before.if2.true)) in
-    frame-owes defaultOrder g (true-T (is_order defaultOrder) default-is-order) c.seven-bytes.result c.before.scatter.result c.seven-bytes.ensures
+    let same = same_equal a.order.now default_order (T_true _ (sym told.is-default.ensures ∙ c.before.before.if2.true)) in
+    frame_owes default_order g (true_T (is_order default_order) default_is_order) c.seven-bytes.result c.before.scatter.result c.seven-bytes.ensures
     c.before.scatter.ensures
-    ∙ ap (λ (o : List ℕ). placedBits o g) (sym same)
+    ∙ ap (λ (o : List ℕ). placed_bits o g) (sym same)
 
 each-once-requires : tie.Need-each-once-requires
 each-once-requires c κs = omega arith
@@ -49,7 +49,7 @@ returns-3 c =
     let told = c.before.before.before in
     let a = told.before.before.before.before.before.args in
     let x = c.before.place-each in
-    frame-owes a.order.now (carried 54 a.bits) (sym told.each-once.ensures ∙ c.before.before.if3.true) c.seven-bytes2.result x.result
+    frame_owes a.order.now (carried 54 a.bits) (sym told.each-once.ensures ∙ c.before.before.if3.true) c.seven-bytes2.result x.result
     c.seven-bytes2.ensures x.ensures
 
 returns-4 : tie.Need-returns-4
@@ -66,7 +66,7 @@ place-bits-spec =
     is-default-requires
     scatter-requires
     seven-bytes-requires
-    returns-2
+    returns_2
     each-once-requires
     place-each-requires
     seven-bytes-requires-2

@@ -4,7 +4,7 @@ use mathlib.Core.List.{[], ◌∷◌}
 use Prim.Native.Nat.{ℕ, ◌%◌}
 use native.Mathlib.Nat.{div-one}
 use native.Mathlib.Omega.{arith}
-use Rattle.bits.proofs.Numbers.{carried-part}
+use Rattle.bits.proofs.Numbers.{carried_part}
 use Rattle.order.proofs.place.seven_bytes.Statement.{statement}
 use Rattle.order.proofs.place.seven_bytes.Tie as tie
 
@@ -32,9 +32,9 @@ cast-t21 c = omega arith
 returns : tie.Need-returns
 returns c i =
     let w = c.args.bits in
-    sym (carried-part 0 8 48 w) i ∷ sym (carried-part 8 8 40 w) i ∷ sym (carried-part 16 8 32 w) i ∷ sym (carried-part 24 8 24 w) i ∷ sym
-    (carried-part 32 8 16 w) i ∷ sym (carried-part 40 8 8 w) i
-    ∷ sym (carried-part 48 8 0 w ∙ ap (λ (x : ℕ). x % 256) (div-one w)) i ∷ []
+    sym (carried_part 0 8 48 w) i ∷ sym (carried_part 8 8 40 w) i ∷ sym (carried_part 16 8 32 w) i ∷ sym (carried_part 24 8 24 w) i ∷ sym
+    (carried_part 32 8 16 w) i ∷ sym (carried_part 40 8 8 w) i
+    ∷ sym (carried_part 48 8 0 w ∙ ap (λ (x : ℕ). x % 256) (div-one w)) i ∷ []
 
 pub seven-bytes-spec : {M : Type 1} → statement M
 seven-bytes-spec = tie.close (tie.spec cast-t4 cast-t7 cast-t10 cast-t13 cast-t16 cast-t19 cast-t21 returns)

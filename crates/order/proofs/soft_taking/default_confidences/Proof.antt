@@ -3,15 +3,15 @@ use mathlib.Core.Path.{◌≡◌, refl, subst}
 use Prim.Native.Nat.{ℕ, ◌-◌, ◌%◌, ◌≤◌}
 use native.Mathlib.Omega.{arith}
 use lib.ListN.{length}
-use Rattle.order.specs.Order.{defaultOrder}
-use Rattle.order.specs.SoftTaking.{confidenceOf, KnownTo}
-use Rattle.order.proofs.SoftTaking.{known-all}
+use Rattle.order.specs.Order.{default_order}
+use Rattle.order.specs.SoftTaking.{confidence_of, KnownTo}
+use Rattle.order.proofs.SoftTaking.{known_all}
 use Rattle.order.proofs.soft_taking.default_confidences.Statement.{statement}
 use Rattle.order.proofs.soft_taking.default_confidences.Tie as tie
 
 abbrev invariant-loop : tie.invariant-loop
 invariant-loop confidences k₀ k =
-    (k.count ≤ 54) × (k.count % 9 ≡ 0) × (length confidences ≡ 54) × KnownTo (confidenceOf defaultOrder confidences) k.count k.found
+    (k.count ≤ 54) × (k.count % 9 ≡ 0) × (length confidences ≡ 54) × KnownTo (confidence_of default_order confidences) k.count k.found
 
 abbrev decreases-loop : tie.decreases-loop
 decreases-loop confidences k₀ k = 54 - k.count
@@ -33,9 +33,9 @@ loop-again c =
 returns : tie.Need-returns invariant-loop decreases-loop
 returns c =
     let L = c.before.before.before.loop in
-    let q : ℕ → ℕ = confidenceOf defaultOrder c.before.before.before.before.before.args.confidences.now in
+    let q : ℕ → ℕ = confidence_of default_order c.before.before.before.before.before.args.confidences.now in
     let e : L.known.count ≡ 54 = omega arith in
-    known-all q L.known.found (subst (λ (n : ℕ). KnownTo q n L.known.found) e L.invariant.3)
+    known_all q L.known.found (subst (λ (n : ℕ). KnownTo q n L.known.found) e L.invariant.3)
 
 pub default-confidences-spec : {M : Type 1} → statement M
 default-confidences-spec = tie.close (tie.spec invariant-loop decreases-loop loop-holds nine-more-requires loop-less loop-again returns)

@@ -5,9 +5,9 @@ use native.Mathlib.Omega.{arith}
 use lib.ListN.{length, get_or}
 use Rattle.bits.proofs.Tests.{T_true}
 use Rattle.order.specs.Order.{Order, is_order}
-use Rattle.order.proofs.Orders.{is-order-only}
+use Rattle.order.proofs.Orders.{is_order_only}
 use Rattle.order.proofs.Places.{entry_lt}
-use Rattle.order.proofs.SoftTaking.{FilledTo, filled_more, filled-all}
+use Rattle.order.proofs.SoftTaking.{FilledTo, filled_more, filled_all}
 use Rattle.order.proofs.soft_taking.each_confidence.Statement.{statement}
 use Rattle.order.proofs.soft_taking.each_confidence.Tie as tie
 
@@ -20,7 +20,7 @@ decreases-loop confidences order found₀ t₀ found t = 54 - t
 loop-holds : tie.Need-loop-init invariant-loop decreases-loop
 loop-holds c =
     let ord = c.args.order.now in
-    (omega arith, c.requires.0, is-order-only ord (T_true (is_order ord) c.requires.1), (refl, λ j l h. absurd (omega arith)))
+    (omega arith, c.requires.0, is_order_only ord (T_true (is_order ord) c.requires.1), (refl, λ j l h. absurd (omega arith)))
 
 shared-slice-read-found : tie.Need-shared-slice-read-found invariant-loop decreases-loop
 shared-slice-read-found c = omega arith
@@ -55,7 +55,7 @@ returns c =
     let L = c.before.loop in
     let a = c.before.before.args in
     let e : L.t ≡ 54 = omega arith in
-    filled-all a.order.now L.invariant.2 a.confidences.now L.found
+    filled_all a.order.now L.invariant.2 a.confidences.now L.found
     (subst (λ (t : ℕ). FilledTo a.order.now a.confidences.now t L.found) e L.invariant.3)
 
 pub each-confidence-spec : {M : Type 1} → statement M

@@ -3,15 +3,15 @@ use mathlib.Core.Path.{◌≡◌, refl, subst}
 use Prim.Native.Nat.{ℕ, ◌+◌, ◌-◌, ◌≤◌}
 use native.Mathlib.Omega.{arith}
 use lib.ListN.{length}
-use Rattle.order.specs.Order.{defaultOrder}
-use Rattle.order.specs.SoftTaking.{confidenceOf, KnownTo}
-use Rattle.order.proofs.SoftTaking.{default-confidence, known_more}
+use Rattle.order.specs.Order.{default_order}
+use Rattle.order.specs.SoftTaking.{confidence_of, KnownTo}
+use Rattle.order.proofs.SoftTaking.{default_confidence, known_more}
 use Rattle.order.proofs.soft_taking.nine_more.Statement.{statement}
 use Rattle.order.proofs.soft_taking.nine_more.Tie as tie
 
 abbrev invariant-loop : tie.invariant-loop
 invariant-loop confidences before found₀ i₀ found i =
-    (i ≤ 9) × (before.count ≤ 45) × (length confidences ≡ 54) × KnownTo (confidenceOf defaultOrder confidences) (before.count + i) found
+    (i ≤ 9) × (before.count ≤ 45) × (length confidences ≡ 54) × KnownTo (confidence_of default_order confidences) (before.count + i) found
 
 abbrev decreases-loop : tie.decreases-loop
 decreases-loop confidences before found₀ i₀ found i = 9 - i
@@ -21,7 +21,7 @@ loop-holds c =
     let s = c.before in
     let b = s.args.before in
     let e : b.count ≡ b.count + 0 = omega arith in
-    (omega arith, s.requires.0.1, s.requires.0.0, subst (λ (n : ℕ). KnownTo (confidenceOf defaultOrder s.args.confidences.now) n b.found) e s.requires.1)
+    (omega arith, s.requires.0.1, s.requires.0.0, subst (λ (n : ℕ). KnownTo (confidence_of default_order s.args.confidences.now) n b.found) e s.requires.1)
 
 add-found : tie.Need-overflow-add-found invariant-loop decreases-loop
 add-found c = omega arith
@@ -50,11 +50,11 @@ loop-again c =
     let a = c.before.before.before.before.before.before.args in
     let n : ℕ = a.before.count + L.i in
     let m : ℕ = a.before.count + (L.i + 1) in
-    let q : ℕ → ℕ = confidenceOf defaultOrder a.confidences.now in (
+    let q : ℕ → ℕ = confidence_of default_order a.confidences.now in (
       omega arith,
       L.invariant.1,
       L.invariant.2,
-      known_more q L.found n m _ (omega arith) (omega arith) (default-confidence a.confidences.now n (omega arith)) L.invariant.3,
+      known_more q L.found n m _ (omega arith) (omega arith) (default_confidence a.confidences.now n (omega arith)) L.invariant.3,
     )
 
 add-t14 : tie.Need-overflow-add-t14 invariant-loop decreases-loop
@@ -65,7 +65,7 @@ returns c =
     let L = c.before.before.loop in
     let a = c.before.before.before.before.args in
     let e : a.before.count + L.i ≡ a.before.count + 9 = omega arith in
-    (refl, subst (λ (n : ℕ). KnownTo (confidenceOf defaultOrder a.confidences.now) n L.found) e L.invariant.3)
+    (refl, subst (λ (n : ℕ). KnownTo (confidence_of default_order a.confidences.now) n L.found) e L.invariant.3)
 
 pub nine-more-spec : {M : Type 1} → statement M
 nine-more-spec =

@@ -3,9 +3,9 @@ use mathlib.Core.Path.{◌≡◌, sym, ap, ◌∙◌}
 use mathlib.Core.List.{List}
 use Prim.Native.Nat.{ℕ}
 use native.Mathlib.Omega.{arith}
-use Rattle.order.specs.Taking.{bitsAnswer}
+use Rattle.order.specs.Taking.{bits_answer}
 use Rattle.order.specs.declared.BitsAnswer.TheVariants.{Bits}
-use Rattle.order.proofs.SoftAnswers.{taken-order, frame-owes, count-owes, soft-owes}
+use Rattle.order.proofs.SoftAnswers.{taken_order, frame_owes, count_owes, soft_owes}
 use Rattle.order.proofs.soft_taking.soft_bits.Statement.{statement}
 use Rattle.order.proofs.soft_taking.soft_bits.Tie as tie
 
@@ -41,27 +41,27 @@ module _ (s : tie.After-bits) where
   abbrev number : ℕ
   number = s.bits.given.0.0
 
-  taken : bitsAnswer order frame ≡ Bits number
+  taken : bits_answer order frame ≡ Bits number
   taken = sym s.before.before.logical-bits.ensures ∙ s.bits.given.1
 
 returns : tie.Need-returns
-returns c = let s = c.before.before.before in c.refused2.ensures ∙ count-owes (order s) (frame s) (confidences s) (number s) (taken s) c.before.if1.true
+returns c = let s = c.before.before.before in c.refused2.ensures ∙ count_owes (order s) (frame s) (confidences s) (number s) (taken s) c.before.if1.true
 
 by-bit-requires : tie.Need-by-bit-requires
-by-bit-requires c κs = let s = c.before.before in (c.if1.false, taken-order (order s) (frame s) (number s) (taken s))
+by-bit-requires c κs = let s = c.before.before in (c.if1.false, taken_order (order s) (frame s) (number s) (taken s))
 
-returns-2 : tie.Need-returns-2
-returns-2 c =
+returns_2 : tie.Need-returns-2
+returns_2 c =
     let told = c.before.before in
     let asked = told.before.before in
     let a = asked.before.before.before.before.args in
-    c.refused.ensures ∙ frame-owes a.order.now a.frame.now a.confidences.now _ (sym asked.logical-bits.ensures ∙ told.n.given.1)
+    c.refused.ensures ∙ frame_owes a.order.now a.frame.now a.confidences.now _ (sym asked.logical-bits.ensures ∙ told.n.given.1)
 
 returns-3 : tie.Need-returns-3
 returns-3 c =
     let s = c.before.before.before in
     ap (λ (l : List ℕ). record { refusal = 0; bits = number s; confidences = l }) c.by_bit.ensures
-    ∙ soft-owes (order s) (frame s) (confidences s) (number s) (taken s) c.before.if1.false
+    ∙ soft_owes (order s) (frame s) (confidences s) (number s) (taken s) c.before.if1.false
 
 pub soft-bits-spec : {M : Type 1} → statement M
 soft-bits-spec =
@@ -74,5 +74,5 @@ soft-bits-spec =
     refused-requires-2
     returns
     by-bit-requires
-    returns-2
+    returns_2
     returns-3)

@@ -4,7 +4,7 @@ use Prim.Native.Nat.{ℕ, ◌*◌, ◌-◌, ◌≤◌, ◌<◌}
 use native.Mathlib.Omega.{arith}
 use lib.ListN.{length, get_or}
 use Rattle.bits.specs.Bits.{value, cut}
-use Rattle.bits.proofs.Numbers.{cut-value-lt}
+use Rattle.bits.proofs.Numbers.{cut_value_lt}
 use Rattle.order.specs.Order.{bit_at}
 use Rattle.order.proofs.Answers.{byte_more}
 use Rattle.order.proofs.taking.bytes_from.Statement.{statement}
@@ -27,7 +27,7 @@ mul-number : tie.Need-overflow-mul-number invariant-loop decreases-loop
 mul-number c =
     let L = c.before.loop in
     let a = c.before.before.args in
-    omega (arith, cut-value-lt (bit_at a.frame.now) (8 * a.first) (8 * (L.i - a.first)) 48 L.number (omega arith) L.invariant.4)
+    omega (arith, cut_value_lt (bit_at a.frame.now) (8 * a.first) (8 * (L.i - a.first)) 48 L.number (omega arith) L.invariant.4)
 
 shared-slice-read-number : tie.Need-shared-slice-read-number invariant-loop decreases-loop
 shared-slice-read-number c = omega arith
@@ -41,7 +41,7 @@ add-number c =
     let a = c.before.before.before.args in
     omega (
       arith,
-      cut-value-lt (bit_at a.frame.now) (8 * a.first) (8 * (L.i - a.first)) 48 L.number (omega arith) L.invariant.4,
+      cut_value_lt (bit_at a.frame.now) (8 * a.first) (8 * (L.i - a.first)) 48 L.number (omega arith) L.invariant.4,
       c.shared-slice-known.given L.i,
     )
 

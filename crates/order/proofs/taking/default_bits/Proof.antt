@@ -2,11 +2,11 @@
 use mathlib.Core.Path.{ap, ◌∙◌}
 use native.Mathlib.Omega.{arith}
 use Rattle.bits.specs.Bits.{value}
-use Rattle.bits.proofs.Tests.{true-T}
-use Rattle.order.specs.Order.{is_order, defaultOrder}
-use Rattle.order.proofs.DefaultOrder.{default-order}
-use Rattle.order.proofs.Orders.{default-is-order}
-use Rattle.order.proofs.Answers.{logical-is, padding-owes, bits-owes}
+use Rattle.bits.proofs.Tests.{true_T}
+use Rattle.order.specs.Order.{is_order, default_order}
+use Rattle.order.proofs.DefaultOrder.{default_order_lem}
+use Rattle.order.proofs.Orders.{default_is_order}
+use Rattle.order.proofs.Answers.{logical_is, padding_owes, bits_owes}
 use Rattle.order.proofs.taking.default_bits.Statement.{statement}
 use Rattle.order.proofs.taking.default_bits.Tie as tie
 
@@ -16,7 +16,7 @@ shared-slice-read-if1 c = omega arith
 returns : tie.Need-returns
 returns c =
     let s = c.before.before.before in
-    padding-owes s.args.frame.now defaultOrder s.requires (true-T (is_order defaultOrder) default-is-order) c.if1.true
+    padding_owes s.args.frame.now default_order s.requires (true_T (is_order default_order) default_is_order) c.if1.true
 
 placed-bits-requires : tie.Need-placed-bits-requires
 placed-bits-requires c κs = omega arith
@@ -24,14 +24,14 @@ placed-bits-requires c κs = omega arith
 gather-requires : tie.Need-gather-requires
 gather-requires c κs = tt
 
-returns-2 : tie.Need-returns-2
-returns-2 c =
+returns_2 : tie.Need-returns-2
+returns_2 c =
     let clear = c.before.before in
     let s = clear.before.before.before in
     let bytes = s.args.frame.now in
     let taken = c.before.placed-bits in
-    bits-owes bytes defaultOrder s.requires (true-T (is_order defaultOrder) default-is-order) clear.if1.false c.gather.result
-    (c.gather.ensures ∙ ap value (logical-is bytes defaultOrder default-order taken.result taken.ensures))
+    bits_owes bytes default_order s.requires (true_T (is_order default_order) default_is_order) clear.if1.false c.gather.result
+    (c.gather.ensures ∙ ap value (logical_is bytes default_order default_order_lem taken.result taken.ensures))
 
 pub default-bits-spec : {M : Type 1} → statement M
-default-bits-spec = tie.close (tie.spec shared-slice-read-if1 returns placed-bits-requires gather-requires returns-2)
+default-bits-spec = tie.close (tie.spec shared-slice-read-if1 returns placed-bits-requires gather-requires returns_2)

@@ -1,9 +1,9 @@
 -- `order::taking::placed_bits` meets its contract: four bytes, two and one are joined. Assumes nothing.
 use native.Mathlib.Omega.{arith}
 use lib.Dec.{lit≤}
-use Rattle.bits.proofs.Numbers.{cut-value-lt}
+use Rattle.bits.proofs.Numbers.{cut_value_lt}
 use Rattle.order.specs.Order.{bit_at}
-use Rattle.order.proofs.Answers.{bytes-all}
+use Rattle.order.proofs.Answers.{bytes_all}
 use Rattle.order.proofs.taking.placed_bits.Statement.{statement}
 use Rattle.order.proofs.taking.placed_bits.Tie as tie
 
@@ -11,7 +11,7 @@ bytes-from-requires : tie.Need-bytes-from-requires
 bytes-from-requires c κs = (c.before.requires, lit≤ tt, lit≤ tt)
 
 mul-result : tie.Need-overflow-mul-result
-mul-result c = omega (arith, cut-value-lt (bit_at c.before.before.args.frame.now) 0 32 32 c.bytes-from.result (lit≤ tt) c.bytes-from.ensures)
+mul-result c = omega (arith, cut_value_lt (bit_at c.before.before.args.frame.now) 0 32 32 c.bytes-from.result (lit≤ tt) c.bytes-from.ensures)
 
 bytes-from-requires-2 : tie.Need-bytes-from-requires-2
 bytes-from-requires-2 c κs = (c.before.before.requires, lit≤ tt, lit≤ tt)
@@ -23,8 +23,8 @@ add-result c =
     let y = c.bytes-from2 in
     omega (
       arith,
-      cut-value-lt (bit_at frame) 0 32 32 x.result (lit≤ tt) x.ensures,
-      cut-value-lt (bit_at frame) 32 16 16 y.result (lit≤ tt) y.ensures,
+      cut_value_lt (bit_at frame) 0 32 32 x.result (lit≤ tt) x.ensures,
+      cut_value_lt (bit_at frame) 32 16 16 y.result (lit≤ tt) y.ensures,
     )
 
 mul-result-2 : tie.Need-overflow-mul-result-2
@@ -34,8 +34,8 @@ mul-result-2 c =
     let y = c.bytes-from2 in
     omega (
       arith,
-      cut-value-lt (bit_at frame) 0 32 32 x.result (lit≤ tt) x.ensures,
-      cut-value-lt (bit_at frame) 32 16 16 y.result (lit≤ tt) y.ensures,
+      cut_value_lt (bit_at frame) 0 32 32 x.result (lit≤ tt) x.ensures,
+      cut_value_lt (bit_at frame) 32 16 16 y.result (lit≤ tt) y.ensures,
     )
 
 bytes-from-requires-3 : tie.Need-bytes-from-requires-3
@@ -49,9 +49,9 @@ add-result-2 c =
     let z = c.bytes-from3 in
     omega (
       arith,
-      cut-value-lt (bit_at frame) 0 32 32 x.result (lit≤ tt) x.ensures,
-      cut-value-lt (bit_at frame) 32 16 16 y.result (lit≤ tt) y.ensures,
-      cut-value-lt (bit_at frame) 48 8 8 z.result (lit≤ tt) z.ensures,
+      cut_value_lt (bit_at frame) 0 32 32 x.result (lit≤ tt) x.ensures,
+      cut_value_lt (bit_at frame) 32 16 16 y.result (lit≤ tt) y.ensures,
+      cut_value_lt (bit_at frame) 48 8 8 z.result (lit≤ tt) z.ensures,
     )
 
 returns : tie.Need-returns
@@ -59,7 +59,7 @@ returns c =
     let x = c.before.before.bytes-from in
     let y = c.before.bytes-from2 in
     let z = c.bytes-from3 in
-    bytes-all c.before.before.before.before.args.frame.now x.result y.result z.result x.ensures y.ensures z.ensures
+    bytes_all c.before.before.before.before.args.frame.now x.result y.result z.result x.ensures y.ensures z.ensures
 
 pub placed-bits-spec : {M : Type 1} → statement M
 placed-bits-spec =

@@ -11,9 +11,9 @@ use Rattle.bits.specs.Bits.{bit, carried}
 use Rattle.bits.proofs.Tests.{T_true}
 use Rattle.order.specs.Order.{Order}
 use Rattle.order.specs.Taking.{OneNamed}
-use Rattle.order.proofs.Orders.{is-order-only}
+use Rattle.order.proofs.Orders.{is_order_only}
 use Rattle.order.proofs.Places.{entry_lt}
-use Rattle.order.proofs.Named.{Left, left-more, left-first, TakenTo, taken_none, taken_more, taken-all}
+use Rattle.order.proofs.Named.{Left, left_more, left_first, TakenTo, taken_none, taken_more, taken_all}
 use Rattle.order.proofs.taking.take_each.Statement.{statement}
 use Rattle.order.proofs.taking.take_each.Tie as tie
 
@@ -26,7 +26,7 @@ decreases-loop placed order bits₀ left₀ t₀ bits left t = 54 - t
 loop-holds : tie.Need-loop-init invariant-loop decreases-loop
 loop-holds c =
     let s = c.before in
-    let o = is-order-only s.args.order.now (T_true _ s.requires) in
+    let o = is_order_only s.args.order.now (T_true _ s.requires) in
     (omega arith, o, lit< tt, λ k a b. ap (λ (i : ℕ). bit i s.args.placed) (sym (sub-zero k)), taken_none s.args.order.now o (carried 56 s.args.placed))
 
 shared-slice-read-bit-named : tie.Need-shared-slice-read-bit-named invariant-loop decreases-loop
@@ -49,11 +49,11 @@ loop-again c =
     let a = c.before.before.before.before.before.args in
     let x = c.bit-named in
     let here : OneNamed (get_or a.order.now L.t 0) (carried 56 a.placed L.t) x.result =
-    subst (λ (b : Bool). OneNamed (get_or a.order.now L.t 0) b x.result) (left-first a.placed L.t L.left L.invariant.3 (omega arith)) x.ensures.0 in (
+    subst (λ (b : Bool). OneNamed (get_or a.order.now L.t 0) b x.result) (left_first a.placed L.t L.left L.invariant.3 (omega arith)) x.ensures.0 in (
       omega arith,
       L.invariant.1,
       or_lt 54 L.bits x.result L.invariant.2 x.ensures.1,
-      left-more a.placed L.t L.left L.invariant.3,
+      left_more a.placed L.t L.left L.invariant.3,
       taken_more a.order.now L.invariant.1 (carried 56 a.placed) L.t L.bits x.result (omega arith) L.invariant.4 here,
     )
 
@@ -62,7 +62,7 @@ returns c =
     let L = c.before.loop in
     let a = c.before.before.before.args in
     let e : L.t ≡ 54 = omega arith in
-    taken-all a.order.now L.invariant.1 (carried 56 a.placed) L.bits L.invariant.2
+    taken_all a.order.now L.invariant.1 (carried 56 a.placed) L.bits L.invariant.2
     (subst (λ (t : ℕ). TakenTo a.order.now (carried 56 a.placed) t L.bits) e L.invariant.4)
 
 pub take-each-spec : {M : Type 1} → statement M

@@ -3,7 +3,7 @@ use mathlib.Core.List.{List, [], ◌∷◌}
 use Prim.Native.Nat.{ℕ}
 use lib.ListN.{get_or}
 use borrow.Author.Rules.{rules}
-use Rattle.bits.proofs.Tests.{equal-at}
+use Rattle.bits.proofs.Tests.{equal_at}
 use Rattle.pitch.specs.Pitch.{index}
 use Rattle.pitch.proofs.class.index_of.Statement.{statement}
 use Rattle.pitch.proofs.class.index_of.Tie as tie
@@ -23,7 +23,7 @@ array-read-result c = search rules
 
 returns : tie.Need-returns
 unfolding table index
-returns c = equal-at 128 (λ k. get_or table k 0) index tt c.args.code c.requires
+returns c = equal_at 128 (λ k. get_or table k 0) index tt c.args.code c.requires
 
 pub index-of-spec : {M : Type 1} → statement M
 index-of-spec = tie.close (tie.spec array-read-result returns)

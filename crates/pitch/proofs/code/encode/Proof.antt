@@ -5,8 +5,8 @@ use Prim.Native.Nat.{ℕ, ◌<◌, suc-le-suc}
 use lib.ListN.{get_or}
 use borrow.Author.Rules.{rules}
 use borrow.Author.Tests.{lt-ltb, le-ltb}
-use Rattle.bits.proofs.Tests.{equal-at}
-use Rattle.pitch.specs.Pitch.{voicedFrom, code_of, codeAnswer}
+use Rattle.bits.proofs.Tests.{equal_at}
+use Rattle.pitch.specs.Pitch.{voiced_from, code_of, code_answer}
 use Rattle.pitch.specs.declared.CodeAnswer.TheVariants.{Code}
 use Rattle.pitch.proofs.code.encode.Statement.{statement}
 use Rattle.pitch.proofs.code.encode.Tie as tie
@@ -20,21 +20,21 @@ table =
     ∷ 109 ∷ 110 ∷ 111 ∷ 112 ∷ 113 ∷ 114 ∷ 115 ∷ 116 ∷ 117 ∷ 118 ∷ 119 ∷ 120 ∷ 121 ∷ 122 ∷ 123 ∷ 124 ∷ 125 ∷ 126 ∷ 127 ∷ []
 
 table_is : (i : ℕ) → i < 99 → get_or table i 0 ≡ code_of i
-unfolding table voicedFrom code_of
-table_is = equal-at 99 (λ k. get_or table k 0) code_of tt
+unfolding table voiced_from code_of
+table_is = equal_at 99 (λ k. get_or table k 0) code_of tt
 
 returns : tie.Need-returns
-unfolding codeAnswer
+unfolding code_answer
 returns c = simp (le-ltb _ 99 c.if1.true)
 
 array-read-t7 : tie.Need-array-read-t7
 array-read-t7 c = search rules
 
-returns-2 : tie.Need-returns-2
-unfolding table codeAnswer
-returns-2 c =
+returns_2 : tie.Need-returns-2
+unfolding table code_answer
+returns_2 c =
     let h = suc-le-suc c.if1.false in
     simp (lt-ltb _ 99 h) (ap Code (table_is _ h))
 
 pub encode-spec : {M : Type 1} → statement M
-encode-spec = tie.close (tie.spec returns array-read-t7 returns-2)
+encode-spec = tie.close (tie.spec returns array-read-t7 returns_2)

@@ -8,9 +8,9 @@ use mir.Syntax.{w32}
 use mir.ValLaws.{to_z-of_z}
 use borrow.Author.Rules.{rules}
 use Rattle.gain.specs.Levels.{apart}
-use Rattle.quantiser.specs.Choice.{steady, sevenLevels, chosenG1}
-use Rattle.gain.proofs.FirstLevel.{first-lowest, first_next, first-rises}
-use Rattle.quantiser.proofs.RaisedLevels.{nearest-raised}
+use Rattle.quantiser.specs.Choice.{steady, seven_levels, chosen_g1}
+use Rattle.gain.proofs.FirstLevel.{first_lowest, first_next, first_rises}
+use Rattle.quantiser.proofs.RaisedLevels.{nearest_raised}
 use Rattle.quantiser.proofs.choice.first_code.Statement.{statement}
 use Rattle.quantiser.proofs.choice.first_code.Tie as tie
 
@@ -22,7 +22,7 @@ steady-is : (c : tie.After-is-steady) → c.is-steady.result ≡ steady c.before
 steady-is c = simp (to_z-of_z w32 _ c.before.ranges.first) at c.is-steady.ensures
 
 returns : tie.Need-returns
-unfolding chosenG1
+unfolding chosen_g1
 returns c = simp (sym (steady-is c.before) ∙ c.if1.true)
 
 first-level-of-requires : tie.Need-first-level-of-requires
@@ -45,7 +45,7 @@ sub-step c = omega (arith, step_is c)
 add-quantise : tie.Need-overflow-add-quantise
 add-quantise c =
     let a = c.before.before.before.before.args in
-    omega (arith, first-lowest a.g2 a.q)
+    omega (arith, first_lowest a.g2 a.q)
 
 raised-requires : tie.Need-raised-requires
 raised-requires c κs = search rules
@@ -53,14 +53,14 @@ raised-requires c κs = search rules
 quantise-requires : tie.Need-quantise-requires
 quantise-requires c κs =
     let a = c.before.before.before.before.before.args in
-    omega (arith, first-lowest a.g2 a.q, step_is c.before)
+    omega (arith, first_lowest a.g2 a.q, step_is c.before)
 
 add-result : tie.Need-overflow-add-result
 add-result c = omega arith
 
-returns-2 : tie.Need-returns-2
-unfolding chosenG1
-returns-2 c =
+returns_2 : tie.Need-returns-2
+unfolding chosen_g1
+returns_2 c =
     let r = c.before in
     let b = r.before.before in
     let t = b.before in
@@ -70,9 +70,9 @@ returns-2 c =
     let base = b.first-level-of.result in
     let step = r.before.first-level-of2.result - base in
     let e : step ≡ 67 * apart g2 q + 372 = omega (arith, step_is r.before) in
-    let h : (i : ℕ) → 18600 + base + i * step ≡ 18600 + sevenLevels g2 q i = λ i. rw (e, b.first-level-of.ensures, first-rises g2 q i) (omega arith) in
+    let h : (i : ℕ) → 18600 + base + i * step ≡ 18600 + seven_levels g2 q i = λ i. rw (e, b.first-level-of.ensures, first_rises g2 q i) (omega arith) in
     let v : pos r.raised.result ≡ s.args.first +ℤ pos 18600 = simp (to_z-of_z w32 _ s.ranges.first) at r.raised.ensures.0 in
-    let n = nearest-raised s.args.first 18600 r.raised.result v (sevenLevels g2 q) (18600 + base) step h 6 in
+    let n = nearest_raised s.args.first 18600 r.raised.result v (seven_levels g2 q) (18600 + base) step h 6 in
     simp (sym (steady-is t.before) ∙ t.if1.false) (ap (λ (i : ℕ). 1 + i) (c.quantise.ensures.0 ∙ n))
 
 pub first-code-spec : {M : Type 1} → statement M
@@ -88,4 +88,4 @@ first-code-spec =
     raised-requires
     quantise-requires
     add-result
-    returns-2)
+    returns_2)

@@ -16,11 +16,11 @@ returns c =
     let e : a.b - a.a ≡ apart a.a a.b = omega arith in
     ap (λ (d : ℕ). leb d a.most) e
 
-returns-2 : tie.Need-returns-2
-returns-2 c =
+returns_2 : tie.Need-returns-2
+returns_2 c =
     let a = c.before.args in
     let e : a.a - a.b ≡ apart a.a a.b = omega arith in
     ap (λ (d : ℕ). leb d a.most) e
 
 pub is-within-spec : {M : Type 1} → statement M
-is-within-spec = tie.close (tie.spec sub-result returns returns-2)
+is-within-spec = tie.close (tie.spec sub-result returns returns_2)

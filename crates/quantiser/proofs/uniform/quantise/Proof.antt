@@ -6,7 +6,7 @@ use native.Mathlib.Nat.{suc-mul, mul-le-mul_right}
 use native.Mathlib.Numerals.{add-one}
 use native.Mathlib.Omega.{arith}
 use Rattle.quantiser.specs.Choice.{nearest}
-use Rattle.quantiser.proofs.Thresholds.{index, index-up, index_stays}
+use Rattle.quantiser.proofs.Thresholds.{index, index_up, index_stays}
 use Rattle.quantiser.proofs.uniform.quantise.Statement.{statement}
 use Rattle.quantiser.proofs.uniform.quantise.Tie as tie
 
@@ -61,11 +61,11 @@ loop-again : tie.Need-loop-preserved invariant-loop decreases-loop
 loop-again c =
     let a = c.before.before.before.args in
     let at = c.before.before.loop in
-    let n = index-up a.base a.step a.value (omega arith) at.i at.invariant.2 (omega arith) in
+    let n = index_up a.base a.step a.value (omega arith) at.i at.invariant.2 (omega arith) in
     (omega arith, rw add-one (omega (arith, suc-mul at.i a.step)), rw add-one n)
 
-returns-2 : tie.Need-returns-2 invariant-loop decreases-loop
-returns-2 c =
+returns_2 : tie.Need-returns-2 invariant-loop decreases-loop
+returns_2 c =
     let e : c.before.loop.i ≡ c.before.before.args.last = omega arith in
     (sym (rw e at c.before.loop.invariant.2), omega arith)
 
@@ -84,4 +84,4 @@ quantise-spec =
     add-i
     loop-less
     loop-again
-    returns-2)
+    returns_2)

@@ -4,13 +4,13 @@ use Prim.Native.Nat.{ℕ, ◌+◌, ◌*◌, ◌-◌, ◌/◌, ◌%◌, ◌^◌, 
 use native.Mathlib.Nat.{mod-lt}
 use native.Mathlib.Omega.{arith}
 use lib.Pow.{pow_pos, pow_mono}
-use Rattle.reading.proofs.Shifts.{shift-power, part-is}
+use Rattle.reading.proofs.Shifts.{shift_power, part_is}
 use Rattle.reading.proofs.parts.part.Statement.{statement}
 use Rattle.reading.proofs.parts.part.Tie as tie
 
 -- the divisor is the power of two
 divisor : (c : tie.Start) → 1 * 2 ^ c.args.count % 2 ^ 64 ≡ 2 ^ c.args.count
-divisor c = shift-power c.args.count (omega arith)
+divisor c = shift_power c.args.count (omega arith)
 
 -- the remainder stays below it
 rest_lt : (c : tie.Start) (x : ℕ) → x % (1 * 2 ^ c.args.count % 2 ^ 64) < 2 ^ c.args.count
@@ -42,7 +42,7 @@ returns c =
     let a = c.args in
     let low : ℕ = 54 - a.first - a.count in
     let e : a.first + (a.count + low) ≡ 54 = omega arith in
-    (ap (λ (m : ℕ). a.bits / 2 ^ low % m) (divisor c) ∙ part-is a.first a.count low a.bits e, rest_lt c (a.bits / 2 ^ low))
+    (ap (λ (m : ℕ). a.bits / 2 ^ low % m) (divisor c) ∙ part_is a.first a.count low a.bits e, rest_lt c (a.bits / 2 ^ low))
 
 pub part-spec : {M : Type 1} → statement M
 part-spec = tie.close (tie.spec sub-result sub-result-2 shr-result shl-result rem-result cast-result returns)

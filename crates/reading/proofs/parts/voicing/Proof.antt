@@ -1,7 +1,7 @@
 -- `reading::parts::voicing` meets its contract: the Fourier index is joined from its three parts, and the others are parts. Assumes nothing.
 use native.Mathlib.Omega.{arith}
 use Rattle.bits.specs.Bits.{carried}
-use Rattle.reading.proofs.Shifts.{fourier-is}
+use Rattle.reading.proofs.Shifts.{fourier_is}
 use Rattle.reading.proofs.parts.voicing.Statement.{statement}
 use Rattle.reading.proofs.parts.voicing.Tie as tie
 
@@ -40,7 +40,7 @@ returns c i =
       pitch = a.pitch;
       bandpass = c.before.part4.ensures.0 i;
       fourier =
-          fourier-is (carried 54 a.bits) _ _ _ p.before.before.part.ensures.0 p.before.part2.ensures.0 p.part3.ensures.0 i;
+          fourier_is (carried 54 a.bits) _ _ _ p.before.before.part.ensures.0 p.before.part2.ensures.0 p.part3.ensures.0 i;
       aperiodic = c.part5.ensures.0 i;
     }
 

@@ -2,8 +2,8 @@
 use mathlib.Core.Path.{◌≡◌, sym, ap, ◌∙◌}
 use native.Mathlib.Omega.{arith}
 use Rattle.bits.specs.Bits.{bits}
-use Rattle.pitch.specs.Pitch.{classOf, classIn}
-use Rattle.pitch.proofs.Answers.{class-in-is}
+use Rattle.pitch.specs.Pitch.{class_of, class_in}
+use Rattle.pitch.proofs.Answers.{class_in_is}
 use Rattle.reading.proofs.pitch_code.class_of.Statement.{statement}
 use Rattle.reading.proofs.pitch_code.class_of.Tie as tie
 
@@ -17,14 +17,14 @@ enum_told : tie.Need-enum-told
 enum_told c = omega arith
 
 -- the class in the call's answer is that of the code
-answered : (c : tie.After-classify) → classIn c.classify.result ≡ classOf (bits 7 c.before.args.code)
-answered c = ap classIn c.classify.ensures ∙ class-in-is c.before.args.code c.before.requires
+answered : (c : tie.After-classify) → class_in c.classify.result ≡ class_of (bits 7 c.before.args.code)
+answered c = ap class_in c.classify.ensures ∙ class_in_is c.before.args.code c.before.requires
 
 returns : tie.Need-returns
-returns c = ap classIn (sym c.before.class.given.1) ∙ answered c.before.before.before
+returns c = ap class_in (sym c.before.class.given.1) ∙ answered c.before.before.before
 
-returns-2 : tie.Need-returns-2
-returns-2 c = ap classIn (sym c.enum_told.given.1) ∙ answered c.before.before
+returns_2 : tie.Need-returns-2
+returns_2 c = ap class_in (sym c.enum_told.given.1) ∙ answered c.before.before
 
 pub class-of-spec : {M : Type 1} → statement M
-class-of-spec = tie.close (tie.spec classify-requires enum-known-class enum_told returns returns-2)
+class-of-spec = tie.close (tie.spec classify-requires enum-known-class enum_told returns returns_2)

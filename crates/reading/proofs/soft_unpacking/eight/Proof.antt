@@ -6,7 +6,7 @@ use native.Mathlib.Omega.{arith}
 use lib.ListN.{length, get_or, take, drop, set, replicate}
 use Rattle.bits.specs.Bits.{cut}
 use Rattle.bits.proofs.Cut.{cut_at}
-use Rattle.bits.proofs.Front.{front-more, front-all}
+use Rattle.bits.proofs.Front.{front_more, front_all}
 use Rattle.reading.proofs.soft_unpacking.eight.Statement.{statement}
 use Rattle.reading.proofs.soft_unpacking.eight.Tie as tie
 
@@ -48,14 +48,14 @@ loop-again c =
       L.invariant.1,
       L.invariant.2,
       ap₂ (λ (d : List ℕ) (x : ℕ). set d L.i x) L.invariant.3 (sym (cut_at 0 (λ j. get_or a.t1 j 0) a.first 8 L.i (omega arith)))
-          ∙ front-more s (replicate 8 0) L.i 0 (omega arith) (omega arith),
+          ∙ front_more s (replicate 8 0) L.i 0 (omega arith) (omega arith),
     )
 
 returns : tie.Need-returns invariant-loop decreases-loop
 returns c =
     let L = c.before.loop in
     let a = c.before.before.args in
-    front-all (target a.t1 a.first) (replicate 8 0) L.found L.i 8 L.invariant.3 (omega arith) (omega arith)
+    front_all (target a.t1 a.first) (replicate 8 0) L.found L.i 8 L.invariant.3 (omega arith) (omega arith)
 
 pub eight-spec : {M : Type 1} → statement M
 eight-spec =

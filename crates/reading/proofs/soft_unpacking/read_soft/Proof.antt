@@ -5,9 +5,9 @@ use Prim.Native.Nat.{ℕ}
 use native.Mathlib.Omega.{arith}
 use lib.ListN.{get_or}
 use Rattle.bits.specs.Bits.{carried}
-use Rattle.pitch.specs.Pitch.{classOf}
+use Rattle.pitch.specs.Pitch.{class_of}
 use Rattle.pitch.specs.declared.PitchClass.{PitchClass}
-use Rattle.reading.specs.SoftReading.{softByClass, softRead}
+use Rattle.reading.specs.SoftReading.{soft_by_class, soft_read}
 use Rattle.reading.proofs.Shifts.{bits_back}
 use Rattle.reading.proofs.soft_unpacking.read_soft.Statement.{statement}
 use Rattle.reading.proofs.soft_unpacking.read_soft.Tie as tie
@@ -42,18 +42,18 @@ module _ (c : tie.After-class-of) where
   q j = get_or c.before.before.args.confidences j 0
 
   -- the class that the call gives is that of the pitch bits
-  by-class : (k : PitchClass) → c.class_of.result ≡ k → softByClass g q k ≡ softRead g q
-  unfolding softRead
-  by-class k e = ap (softByClass g q) (sym e ∙ c.class_of.ensures ∙ ap classOf (bits_back g 28 7 _ c.before.part.ensures.0))
+  by_class_lem : (k : PitchClass) → c.class_of.result ≡ k → soft_by_class g q k ≡ soft_read g q
+  unfolding soft_read
+  by_class_lem k e = ap (soft_by_class g q) (sym e ∙ c.class_of.ensures ∙ ap class_of (bits_back g 28 7 _ c.before.part.ensures.0))
 
 returns : tie.Need-returns
-returns c = c.soft-unvoiced.ensures ∙ by-class c.before.before.before _ c.before.enum_told.given.1
+returns c = c.soft-unvoiced.ensures ∙ by_class_lem c.before.before.before _ c.before.enum_told.given.1
 
-returns-2 : tie.Need-returns-2
-returns-2 c = by-class c.before.before _ c.enum-told2.given.1
+returns_2 : tie.Need-returns-2
+returns_2 c = by_class_lem c.before.before _ c.enum-told2.given.1
 
 returns-3 : tie.Need-returns-3
-returns-3 c = c.voiced.ensures ∙ by-class c.before.before.before.before _ c.before.before.class.given.1
+returns-3 c = c.voiced.ensures ∙ by_class_lem c.before.before.before.before _ c.before.before.class.given.1
 
 pub read-soft-spec : {M : Type 1} → statement M
 read-soft-spec =
@@ -67,5 +67,5 @@ read-soft-spec =
     enum-known-class
     voiced-requires
     returns
-    returns-2
+    returns_2
     returns-3)

@@ -8,10 +8,10 @@ use lib.ListN.{length, get_or, take}
 use Rattle.bits.specs.Bits.{carried}
 use Rattle.hamming.specs.Word.{Bounded}
 use Rattle.hamming.specs.declared.Decoded.{Decoded}
-use Rattle.order.specs.Fields.{wordA, wordB, wordC, wordD}
+use Rattle.order.specs.Fields.{word_a, word_b, word_c, word_d}
 use Rattle.soft.specs.Choice.{choose}
-use Rattle.soft.proofs.Bounds.{choose-bounded}
-use Rattle.reading.specs.Reading.{fromWords}
+use Rattle.soft.proofs.Bounds.{choose_bounded}
+use Rattle.reading.specs.Reading.{from_words}
 use Rattle.reading.proofs.Shifts.{bits_back}
 use Rattle.reading.proofs.soft_unpacking.soft_unvoiced.Statement.{statement}
 use Rattle.reading.proofs.soft_unpacking.soft_unvoiced.Tie as tie
@@ -72,42 +72,42 @@ module _ (at-d : tie.After-choose4) where
   abbrev q : ℕ → ℕ
   q j = get_or start.args.confidences j 0
 
-  read_a : at_a.choose.result ≡ choose 8 (wordA q) (wordA g)
+  read_a : at_a.choose.result ≡ choose 8 (word_a q) (word_a g)
   read_a =
       at_a.choose.ensures
       ∙ (λ i. choose 8 (take 8 (at_a.before.eight.ensures i)) (bits_back g 0 8 _ at_a.before.before.part.ensures.0 i))
 
-  read-b : at_b.choose2.result ≡ choose 6 (wordB q) (wordB g)
-  read-b =
+  read_b : at_b.choose2.result ≡ choose 6 (word_b q) (word_b g)
+  read_b =
       at_b.choose2.ensures
       ∙ (λ i. choose 6 (take 6 (at_b.before.eight2.ensures i)) (bits_back g 8 6 _ at_b.before.before.part2.ensures.0 i))
 
-  read-c : at_c.choose3.result ≡ choose 7 (wordC q) (wordC g)
-  read-c =
+  read_c : at_c.choose3.result ≡ choose 7 (word_c q) (word_c g)
+  read_c =
       at_c.choose3.ensures
       ∙ (λ i. choose 7 (take 7 (at_c.before.eight3.ensures i)) (bits_back g 14 7 _ at_c.before.before.part3.ensures.0 i))
 
-  read-d : at-d.choose4.result ≡ choose 7 (wordD q) (wordD g)
-  read-d =
+  read_d : at-d.choose4.result ≡ choose 7 (word_d q) (word_d g)
+  read_d =
       at-d.choose4.ensures
       ∙ (λ i. choose 7 (take 7 (at-d.before.eight4.ensures i)) (bits_back g 21 7 _ at-d.before.before.part4.ensures.0 i))
 
 -- an outcome that is chosen for a word fits it
 fits : (n : ℕ) (q : List ℕ) (w : List Bool) (r : Decoded) → length w ≡ n → r ≡ choose n q w → Bounded n r
-fits n q w r l e = subst⁻¹ (Bounded n) e (choose-bounded n q w l)
+fits n q w r l e = subst⁻¹ (Bounded n) e (choose_bounded n q w l)
 
 from-words-requires : tie.Need-from-words-requires
 from-words-requires c κs = (
-  fits 8 (wordA (q c)) (wordA (g c)) _ refl (read_a c),
-  fits 6 (wordB (q c)) (wordB (g c)) _ refl (read-b c),
-  fits 7 (wordC (q c)) (wordC (g c)) _ refl (read-c c),
-  fits 7 (wordD (q c)) (wordD (g c)) _ refl (read-d c),
+  fits 8 (word_a (q c)) (word_a (g c)) _ refl (read_a c),
+  fits 6 (word_b (q c)) (word_b (g c)) _ refl (read_b c),
+  fits 7 (word_c (q c)) (word_c (g c)) _ refl (read_c c),
+  fits 7 (word_d (q c)) (word_d (g c)) _ refl (read_d c),
 )
 
 returns : tie.Need-returns
 returns c =
     let d = c.before in
-    c.from-words.ensures ∙ (λ i. fromWords (g d) (read_a d i) (read-b d i) (read-c d i) (read-d d i))
+    c.from-words.ensures ∙ (λ i. from_words (g d) (read_a d i) (read_b d i) (read_c d i) (read_d d i))
 
 pub soft-unvoiced-spec : {M : Type 1} → statement M
 soft-unvoiced-spec =

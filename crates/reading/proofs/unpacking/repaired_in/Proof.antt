@@ -3,7 +3,7 @@ use mathlib.Core.Path.{ap, ◌∙◌}
 use Prim.Native.Nat.{ℕ, ◌+◌}
 use native.Mathlib.Omega.{arith}
 use Rattle.bits.specs.Bits.{carried}
-use Rattle.reading.specs.Reading.{pitchRepaired}
+use Rattle.reading.specs.Reading.{pitch_repaired}
 use Rattle.reading.proofs.Shifts.{bits_back}
 use Rattle.reading.proofs.unpacking.repaired_in.Statement.{statement}
 use Rattle.reading.proofs.unpacking.repaired_in.Tie as tie
@@ -31,7 +31,7 @@ returns c =
     let p = c.before in
     let a = p.before.args in
     ap (λ (n : ℕ). n + a.i + a.j + a.k + a.l)
-    (c.pitch-repaired.ensures.0 ∙ ap pitchRepaired (bits_back (carried 54 a.bits) 28 7 _ p.part.ensures.0))
+    (c.pitch-repaired.ensures.0 ∙ ap pitch_repaired (bits_back (carried 54 a.bits) 28 7 _ p.part.ensures.0))
 
 pub repaired-in-spec : {M : Type 1} → statement M
 repaired-in-spec = tie.close (tie.spec part-requires pitch-repaired-requires add-result add-result-2 add-result-3 add-result-4 returns)

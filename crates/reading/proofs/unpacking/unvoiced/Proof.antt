@@ -7,10 +7,10 @@ use lib.Dec.{lit≤}
 use lib.ListN.{length}
 use Rattle.hamming.specs.Word.{decode, Bounded}
 use Rattle.hamming.specs.declared.Decoded.{Decoded}
-use Rattle.hamming.proofs.Bounds.{decode-bounded}
-use Rattle.order.specs.Fields.{wordA, wordB, wordC, wordD}
+use Rattle.hamming.proofs.Bounds.{decode_bounded}
+use Rattle.order.specs.Fields.{word_a, word_b, word_c, word_d}
 use Rattle.bits.specs.Bits.{carried}
-use Rattle.reading.specs.Reading.{fromWords}
+use Rattle.reading.specs.Reading.{from_words}
 use Rattle.reading.proofs.Shifts.{bits_back}
 use native.Mathlib.Omega.{arith}
 use Rattle.reading.proofs.unpacking.unvoiced.Statement.{statement}
@@ -54,34 +54,34 @@ module _ (at-d : tie.After-decode4) where
   abbrev g : ℕ → Bool
   g = carried 54 at_a.before.before.args.bits
 
-  read_a : at_a.decode.result ≡ decode 8 (wordA g)
+  read_a : at_a.decode.result ≡ decode 8 (word_a g)
   read_a = at_a.decode.ensures ∙ ap (decode 8) (bits_back g 0 8 _ at_a.before.part.ensures.0)
 
-  read-b : at_b.decode2.result ≡ decode 6 (wordB g)
-  read-b = at_b.decode2.ensures ∙ ap (decode 6) (bits_back g 8 6 _ at_b.before.part2.ensures.0)
+  read_b : at_b.decode2.result ≡ decode 6 (word_b g)
+  read_b = at_b.decode2.ensures ∙ ap (decode 6) (bits_back g 8 6 _ at_b.before.part2.ensures.0)
 
-  read-c : at_c.decode3.result ≡ decode 7 (wordC g)
-  read-c = at_c.decode3.ensures ∙ ap (decode 7) (bits_back g 14 7 _ at_c.before.part3.ensures.0)
+  read_c : at_c.decode3.result ≡ decode 7 (word_c g)
+  read_c = at_c.decode3.ensures ∙ ap (decode 7) (bits_back g 14 7 _ at_c.before.part3.ensures.0)
 
-  read-d : at-d.decode4.result ≡ decode 7 (wordD g)
-  read-d = at-d.decode4.ensures ∙ ap (decode 7) (bits_back g 21 7 _ at-d.before.part4.ensures.0)
+  read_d : at-d.decode4.result ≡ decode 7 (word_d g)
+  read_d = at-d.decode4.ensures ∙ ap (decode 7) (bits_back g 21 7 _ at-d.before.part4.ensures.0)
 
 -- an outcome that a word is read as fits it
 fits : (n : ℕ) (w : List Bool) (r : Decoded) → 1 ≤ n → length w ≡ n → r ≡ decode n w → Bounded n r
-fits n w r h l e = subst⁻¹ (Bounded n) e (decode-bounded n w h l)
+fits n w r h l e = subst⁻¹ (Bounded n) e (decode_bounded n w h l)
 
 from-words-requires : tie.Need-from-words-requires
 from-words-requires c κs = (
-  fits 8 (wordA (g c)) _ (lit≤ tt) refl (read_a c),
-  fits 6 (wordB (g c)) _ (lit≤ tt) refl (read-b c),
-  fits 7 (wordC (g c)) _ (lit≤ tt) refl (read-c c),
-  fits 7 (wordD (g c)) _ (lit≤ tt) refl (read-d c),
+  fits 8 (word_a (g c)) _ (lit≤ tt) refl (read_a c),
+  fits 6 (word_b (g c)) _ (lit≤ tt) refl (read_b c),
+  fits 7 (word_c (g c)) _ (lit≤ tt) refl (read_c c),
+  fits 7 (word_d (g c)) _ (lit≤ tt) refl (read_d c),
 )
 
 returns : tie.Need-returns
 returns c =
     let d = c.before in
-    c.from-words.ensures ∙ (λ i. fromWords (g d) (read_a d i) (read-b d i) (read-c d i) (read-d d i))
+    c.from-words.ensures ∙ (λ i. from_words (g d) (read_a d i) (read_b d i) (read_c d i) (read_d d i))
 
 pub unvoiced-spec : {M : Type 1} → statement M
 unvoiced-spec =

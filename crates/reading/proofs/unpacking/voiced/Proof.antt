@@ -1,7 +1,7 @@
 -- `reading::unpacking::voiced` meets its contract: the data and the voicing are those of the bits as they stand. Assumes nothing.
 use mathlib.Core.Path.{ap₂, ◌∙◌}
 use Rattle.bits.specs.Bits.{carried}
-use Rattle.reading.specs.Reading.{indicesOf}
+use Rattle.reading.specs.Reading.{indices_of}
 use Rattle.sets.specs.declared.Indices.{Indices}
 use Rattle.sets.specs.declared.Voicing.{Voicing}
 use Rattle.sets.specs.declared.ParameterSet.TheVariants.{Voiced}
@@ -33,7 +33,7 @@ returns c =
     let p = c.before.before in
     let bits = p.before.before.before.before.args.bits in
     ap₂ (λ (x : Indices) (v : Voicing). Accepted (Voiced x v) 0)
-    (c.before.indices.ensures ∙ (λ i. indicesOf (carried 54 bits) (p.before.before.before.part.ensures.0 i)
+    (c.before.indices.ensures ∙ (λ i. indices_of (carried 54 bits) (p.before.before.before.part.ensures.0 i)
     (p.before.before.part2.ensures.0 i) (p.before.part3.ensures.0 i) (p.part4.ensures.0 i)))
     c.voicing.ensures
 

@@ -3,11 +3,11 @@ use mathlib.Core.Path.{sym, ap, ◌∙◌}
 use lib.Dec.{eqb}
 use Prim.Native.Nat.{◌%◌}
 use native.Mathlib.Omega.{arith}
-use Rattle.bits.proofs.Tests.{true-T}
-use Rattle.reading.specs.Reading.{readingFits}
+use Rattle.bits.proofs.Tests.{true_T}
+use Rattle.reading.specs.Reading.{reading_fits}
 use Rattle.reading.proofs.Ranges.{read_fits}
 use Rattle.receiver.specs.Steps.{step}
-use Rattle.receiver.proofs.Answers.{frame-owes, record-owes, step-owes}
+use Rattle.receiver.proofs.Answers.{frame_owes, record_owes, step_owes}
 use Rattle.receiver.proofs.receiving.receive.Statement.{statement}
 use Rattle.receiver.proofs.receiving.receive.Tie as tie
 
@@ -32,7 +32,7 @@ is-valid-requires c κs = tt
 step-requires : tie.Need-step-requires
 step-requires c κs =
     let fits = c.before in
-    (sym fits.is-valid.ensures ∙ c.if1.true, ap readingFits fits.before.read.ensures ∙ true-T _ (read_fits _))
+    (sym fits.is-valid.ensures ∙ c.if1.true, ap reading_fits fits.before.read.ensures ∙ true_T _ (read_fits _))
 
 refuse-requires-2 : tie.Need-refuse-requires-2
 refuse-requires-2 c κs = tt
@@ -42,10 +42,10 @@ returns c =
     let known = c.before.before in
     let asked = known.before.before in
     let a = asked.before.before.before.args in
-    c.refuse.ensures ∙ frame-owes a.order.now a.rec a.frame.now _ (sym asked.logical-bits.ensures ∙ known.n.given.1)
+    c.refuse.ensures ∙ frame_owes a.order.now a.rec a.frame.now _ (sym asked.logical-bits.ensures ∙ known.n.given.1)
 
-returns-2 : tie.Need-returns-2
-returns-2 c =
+returns_2 : tie.Need-returns-2
+returns_2 c =
     let fits = c.before.before in
     let known = fits.before.before.before in
     let asked = known.before.before in
@@ -53,7 +53,7 @@ returns-2 c =
     let n = known.bits.given.0.0 in
     c.step.ensures
     ∙ ap (step a.rec (eqb (n % 2) 1)) fits.before.read.ensures
-    ∙ step-owes a.order.now a.rec a.frame.now n (sym asked.logical-bits.ensures ∙ known.bits.given.1)
+    ∙ step_owes a.order.now a.rec a.frame.now n (sym asked.logical-bits.ensures ∙ known.bits.given.1)
     (sym fits.is-valid.ensures ∙ c.before.if1.true)
 
 returns-3 : tie.Need-returns-3
@@ -63,7 +63,7 @@ returns-3 c =
     let asked = known.before.before in
     let a = asked.before.before.before.args in
     c.refuse2.ensures
-    ∙ record-owes a.order.now a.rec a.frame.now _ (sym asked.logical-bits.ensures ∙ known.bits.given.1)
+    ∙ record_owes a.order.now a.rec a.frame.now _ (sym asked.logical-bits.ensures ∙ known.bits.given.1)
     (sym fits.is-valid.ensures ∙ c.before.if1.false)
 
 pub receive-spec : {M : Type 1} → statement M
@@ -79,5 +79,5 @@ receive-spec =
     step-requires
     refuse-requires-2
     returns
-    returns-2
+    returns_2
     returns-3)

@@ -49,8 +49,8 @@ use Rattle.records.specs.declared.Record.{Record}
 use Rattle.receiver.specs.declared.Received.{Received}
 use Rattle.records.specs.contracts.Record as rec
 use Rattle.records.proofs.Record.TheLaws as rec-laws
-use Rattle.receiver.proofs.Clauses.{both-shown}
-use Rattle.receiver.proofs.Values.{rec-vals, got-vals, is-answer, is-next, answer-val}
+use Rattle.receiver.proofs.Clauses.{both_shown}
+use Rattle.receiver.proofs.Values.{rec_vals, got_vals, is_answer, is_next, answer_val}
 use Rattle.receiver.specs.contracts.Received as got
 use Rattle.receiver.proofs.Received.TheLaws as got-laws
 use Rattle.receiver.specs.contracts.ReceiveAnswer as ans
@@ -111,10 +111,10 @@ module _ {M : Type 1} {𝓤 : Ura M} (𝓛 : Logic 𝓤) (at_mem : Memory → SP
 
   -- what `receive` is passed
   abbrev to : (Receive 𝓛 at_mem run).Ghost
-  to = (((κ', (κ'', tt)), (q', (q'', tt)), tt, (h, (s, (t, tt))), (rec-vals h, (v ∷ [], (v' ∷ [], tt)))), tt)
+  to = (((κ', (κ'', tt)), (q', (q'', tt)), tt, (h, (s, (t, tt))), (rec_vals h, (v ∷ [], (v' ∷ [], tt)))), tt)
 
   -- what it asks is at hand
-  goes : Is rec.the_row h (rec-vals h) → ent 𝓤 (⋆ 𝓛 (‵ Own ∷ ‵ Own' ∷ (‵ (flft κ' q') ⊛ ‵ (flft κ'' q'') ⊛ ‵ ftrue) ∷ [])) ((Receive 𝓛 at_mem run).pre to)
+  goes : Is rec.the_row h (rec_vals h) → ent 𝓤 (⋆ 𝓛 (‵ Own ∷ ‵ Own' ∷ (‵ (flft κ' q') ⊛ ‵ (flft κ'' q'') ⊛ ‵ ftrue) ∷ [])) ((Receive 𝓛 at_mem run).pre to)
   goes g =
       qed 𝓛 (‵ Own ∷ ‵ Own' ∷ (‵ (flft κ' q') ⊛ ‵ (flft κ'' q'') ⊛ ‵ ftrue) ∷ []) ∵ nothing ! $ move ! (2 ∷ 0 ∷ []) $ fjoin ! $ move ! (1 ∷ 0 ∷ []) $ fjoin ! $
       owned ! rec.the_row (Is rec.the_row) (structs.makes rec.the_type rec-laws.the_plain 𝓛) h _ g $ fjoin ! $
@@ -125,18 +125,18 @@ module _ {M : Type 1} {𝓤 : Ura M} (𝓛 : Logic 𝓤) (at_mem : Memory → SP
   said r = ex_e 𝓤 _ (λ ws. snd∗ 𝓤 (sem 𝓛 (lasts by_value.ended (κ', (κ'', tt)) (h, (s, (t, tt))) ws)) (fact 𝓤 (r ≡ found)))
 
   -- the exit: the borrow closed at the record that came back, and the answer, are what is owed
-  exits : (r : Received) → r ≡ found → Is got.the_row r (got-vals r)
+  exits : (r : Received) → r ≡ found → Is got.the_row r (got_vals r)
       → ent 𝓤 (⋆ 𝓛 (‵ (fobs γ ((rec.the_row).coded.code r.next)) ∷ ‵ (fbor κ (Body (mem rec.the_row) b o γ)) ∷ ‵ (flft κ q)
-      ∷ (‵ (flft κ' q') ⊛ ‵ (flft κ'' q'') ⊛ ‵ ftrue) ∷ ‵ Own ∷ ‵ Own' ∷ [])) (Post (answer-val r))
+      ∷ (‵ (flft κ' q') ⊛ ‵ (flft κ'' q'') ⊛ ‵ ftrue) ∷ ‵ Own ∷ ‵ Own' ∷ [])) (Post (answer_val r))
   exits r e is =
       qed 𝓛 (‵ (fobs γ ((rec.the_row).coded.code r.next)) ∷ ‵ (fbor κ (Body (mem rec.the_row) b o γ)) ∷ ‵ (flft κ q)
       ∷ (‵ (flft κ' q') ⊛ ‵ (flft κ'' q'') ⊛ ‵ ftrue) ∷ ‵ Own ∷ ‵ Own' ∷ []) ∵
       suffices ! _ (ends_at 𝓛 in_place.ended stayed (in_place.clauses 𝓛 at_mem run) (((κ, (κ', (κ'', tt))), (q, (q', (q'', tt))), tt, a, at), tt)
-      (answer-val r) r.answer (r.next, (tt, (tt, tt))) (tt, (tt, (tt, tt)))) $
-      suffices ! _ (both-shown 𝓤 (r.answer ≡ found.answer) (r.next ≡ found.next) _ (λ i. (e i).answer) (λ i. (e i).next)) $
+      (answer_val r) r.answer (r.next, (tt, (tt, tt))) (tt, (tt, (tt, tt)))) $
+      suffices ! _ (both_shown 𝓤 (r.answer ≡ found.answer) (r.next ≡ found.next) _ (λ i. (e i).answer) (λ i. (e i).next)) $
       move ! (2 ∷ 3 ∷ []) $ join ! $ frame ! $ feq_i ! (List Val) (vptr b o ∷ []) (vptr b o ∷ []) refl $ fjoin3 ! $ nothing ! $
       move ! (3 ∷ 0 ∷ []) $ fjoin ! $ move ! (2 ∷ 0 ∷ []) $ fjoin ! $ move ! (1 ∷ 0 ∷ []) $ fjoin ! $
-      owned ! ans.the_row (Is ans.the_row) (enums.makes ans.the_type ans-laws.the_plain 𝓛) r.answer _ (is-answer r is) $
+      owned ! ans.the_row (Is ans.the_row) (enums.makes ans.the_type ans-laws.the_plain 𝓛) r.answer _ (is_answer r is) $
       move ! (1 ∷ 0 ∷ []) $ done !
 
   module _ (C : Calls 𝓤 H) (Λ : Loops 𝓤 H) (fm : FmC 𝓤 H 𝓛.laws C) (known : Triple 𝓤 (C #receive) (Receive 𝓛 at_mem run)) where
@@ -154,13 +154,13 @@ module _ {M : Type 1} {𝓤 : Ura M} (𝓛 : Logic 𝓤) (at_mem : Memory → SP
         -- the borrow is opened
         move ! (13 ∷ []) $ fsplit ! $ fsplit3 ! $ drop ! $ move ! (15 ∷ []) $ split ! $ move ! (2 ∷ 3 ∷ 0 ∷ []) $
         opens ! tt rec.the_row {h = h} b o (λ vs.
-        spelt ! rec.the_row (Is rec.the_row) (shows 𝓛 rec.the_row) rec-vals (structs.tells rec.the_type rec-laws.the_laws) full_share h vs b o $
-        move ! (1 ∷ []) $ peeks ! rec.the_row (Is rec.the_row) (shows 𝓛 rec.the_row) h (rec-vals h) (λ g. move ! (1 ∷ 0 ∷ []) $
+        spelt ! rec.the_row (Is rec.the_row) (shows 𝓛 rec.the_row) rec_vals (structs.tells rec.the_type rec-laws.the_laws) full_share h vs b o $
+        move ! (1 ∷ []) $ peeks ! rec.the_row (Is rec.the_row) (shows 𝓛 rec.the_row) h (rec_vals h) (λ g. move ! (1 ∷ 0 ∷ []) $
         -- [the record's cell; what a record owns; the open borrow; obs; auth; the slices' tokens; what the slices own; _5; …; _4; …; _3; …; _2; …; _1; …;
         --  room for _0; …]
         -- the record is copied out
         assigns ! (of_opd ! (load ! (from ! (hop ! (look ! 15 refl) (stop !))) (look_raw ! 0 refl))) (from ! (stop !))
-        (init ! 7 refl ((structs.lawful rec.the_type rec-laws.the_laws 𝓛).typed h (rec-vals h) g).0) $
+        (init ! 7 refl ((structs.lawful rec.the_type rec-laws.the_laws 𝓛).typed h (rec_vals h) g).0) $
         -- `receive` is called; each slice can be had twice, and one is kept for the exit
         move ! (6 ∷ []) $ fsplit ! $ use1 𝓛 (‵ Own ⊛ ‵ Own) ((shr_slice_copy 𝓛 (named 1) κ' u8).twice s (v ∷ [])) $ split ! $
         move ! (2 ∷ []) $ fsplit ! $ use1 𝓛 (‵ Own' ⊛ ‵ Own') ((shr_slice_copy 𝓛 (named 2) κ'' u8).twice t (v' ∷ [])) $ split ! $ move ! (3 ∷ 0 ∷ 10 ∷ []) $
@@ -178,17 +178,17 @@ module _ {M : Type 1} {𝓤 : Ura M} (𝓛 : Logic 𝓤) (at_mem : Memory → SP
         land ! (from ! (stop !)) (init ! 12 refl ((structs.lawful got.the_type got-laws.the_laws 𝓛).typed r _ is₀).0) $
         rewrite ! 12 (λ (w : Val). ‵ (fat full_share got-laws.mir l₄ 0 w)) (ap only (structs.tells got.the_type got-laws.the_laws r _ is₀)) refl $
         rewrite ! 0 (λ (w : Val). ‵ ((got.the_row).own_val r (w ∷ []))) (ap only (structs.tells got.the_type got-laws.the_laws r _ is₀)) refl $
-        peeks ! got.the_row (Is got.the_row) (shows 𝓛 got.the_row) r (got-vals r) (λ is.
+        peeks ! got.the_row (Is got.the_row) (shows 𝓛 got.the_row) r (got_vals r) (λ is.
         -- its record is stored behind the reference
         assigns ! (of_opd ! (load ! (from ! (fld ! refl (stop !))) (look_in ! 12 (sub ! 1 refl (whole !))))) (from ! (hop ! (look ! 18 refl) (stop !)))
-        (store_raw ! 5 refl ((structs.lawful rec.the_type rec-laws.the_laws 𝓛).typed r.next _ (is-next r is)).0) $
+        (store_raw ! 5 refl ((structs.lawful rec.the_type rec-laws.the_laws 𝓛).typed r.next _ (is_next r is)).0) $
         -- its answer is the result
         assigns ! (of_opd ! (load ! (from ! (fld ! refl (stop !))) (look_in ! 12 (sub ! 0 refl (whole !))))) (from ! (stop !))
-        (init ! 20 refl ((enums.lawful ans.the_type ans-laws.the_laws 𝓛 tt).typed r.answer _ (is-answer r is)).0) $
+        (init ! 20 refl ((enums.lawful ans.the_type ans-laws.the_laws 𝓛 tt).typed r.answer _ (is_answer r is)).0) $
         -- the borrow is closed at the record that came back
         drop ! $ move ! (5 ∷ []) $ drop ! $
-        owned ! rec.the_row (Is rec.the_row) (structs.makes rec.the_type rec-laws.the_plain 𝓛) r.next _ (is-next r is) $
-        move ! (5 ∷ 0 ∷ 6 ∷ 7 ∷ 8 ∷ []) $ closes ! tt rec.the_row r.next (rec-vals r.next) b o $
+        owned ! rec.the_row (Is rec.the_row) (structs.makes rec.the_type rec-laws.the_plain 𝓛) r.next _ (is_next r is) $
+        move ! (5 ∷ 0 ∷ 6 ∷ 7 ∷ 8 ∷ []) $ closes ! tt rec.the_row r.next (rec_vals r.next) b o $
         -- [obs; the borrow; its token; the slices' tokens; what the order owns; true; what the frame owns; _5; …; _4; …; _3; …; _2; …; _1; …; _0; …]
         -- the result is handed over, and the cells of the locals are given back
         returns ! (look ! 17 refl) $ forget ! 7 refl $ forget ! 9 refl $ forget ! 11 refl $ forget ! 13 refl $ forget ! 15 refl $ forget ! 17 refl $
@@ -199,30 +199,30 @@ module _ {M : Type 1} {𝓤 : Ura M} (𝓛 : Logic 𝓤) (at_mem : Memory → SP
   -- the walk from any arguments
   open 𝓛 use {H}
 
-  in-place-walks : (C : Calls 𝓤 H) (Λ : Loops 𝓤 H) → FmC 𝓤 H 𝓛.laws C → Triple 𝓤 (C #receive) (Receive 𝓛 at_mem run)
+  in_place_walks : (C : Calls 𝓤 H) (Λ : Loops 𝓤 H) → FmC 𝓤 H 𝓛.laws C → Triple 𝓤 (C #receive) (Receive 𝓛 at_mem run)
       → Walks 𝓛 in_place.ended stayed (WpFn 𝓤 H C Λ code.function) (in_place.clauses 𝓛 at_mem run)
-  in-place-walks C Λ fm known =
+  in_place_walks C Λ fm known =
       walked 𝓛 in_place.ended stayed (in_place.clauses 𝓛 at_mem run) (WpFn 𝓤 H C Λ code.function) (λ κs. (shr_vals, (shr_slice_vals, (shr_slice_vals, tt))))
       (λ κs. (mut_Tells (named 0) κs.0 rec.the_row, (shr_slice_Tells (named 1) κs.1.0 u8, (shr_slice_Tells (named 2) κs.1.1.0 u8, tt))))
       (λ κs qs bounds a g are. via 𝓤 _ (fst∗ 𝓤 _ (emp 𝓤)) (walk 𝓛 at_mem run κs.0 κs.1.0 κs.1.1.0 qs.0 qs.1.0 qs.1.1.0
       a.0.ref_ptr.0 a.0.ref_ptr.1 a.0.ghost_name a.0.now a.1.0 a.1.1.0 C Λ fm known are.1.0 are.1.1.0))
 
   -- where `receive` meets its contract, so does `receive_in_place`
-  in-place-meets : (𝓣 : Tables 𝓤 H) → Triple 𝓤 (𝓣.C #receive) (Receive 𝓛 at_mem run)
+  in_place_meets : (𝓣 : Tables 𝓤 H) → Triple 𝓤 (𝓣.C #receive) (Receive 𝓛 at_mem run)
       → Meets 𝓛 in_place.signature (WpFn 𝓤 H 𝓣.C 𝓣.Λ code.function) (in_place.spec 𝓛 at_mem run)
-  in-place-meets 𝓣 known =
+  in_place_meets 𝓣 known =
       walk_Meets 𝓛 in_place.ended stayed (
         Goes-ref 𝓛 3 0 tt (plain (λ _. rec.the_row)),
         (Goes-none_slice 𝓛 3 (1 ∷ []) tt (plain (λ _. u8)) yes, (Goes-none_slice 𝓛 3 (2 ∷ []) tt (plain (λ _. u8)) yes, tt)),
       )
       (in_place.clauses 𝓛 at_mem run) (WpFn 𝓤 H 𝓣.C 𝓣.Λ code.function) (WpFn-mono 𝓤 H 𝓛.laws 𝓣 code.function)
-      (in-place-walks 𝓣.C 𝓣.Λ (fm_of 𝓤 H 𝓛.laws 𝓣) known)
+      (in_place_walks 𝓣.C 𝓣.Λ (fm_of 𝓤 H 𝓛.laws 𝓣) known)
 
-pub receive-in-place-spec : {M : Type 1} → stated.statement M
+pub receive_in_place_spec : {M : Type 1} → stated.statement M
 unfolding code.routine tables_of
-receive-in-place-spec 𝓤 𝓛 𝓜 𝓡 =
+receive_in_place_spec 𝓤 𝓛 𝓜 𝓡 =
     entered 𝓤 𝓛.H (triple_of 𝓛 in_place.signature (in_place.spec 𝓛 𝓜.mem 𝓡.run))
     (tables 𝓤 𝓛.H 𝓜 𝓡 code.env).C (tables 𝓤 𝓛.H 𝓜 𝓡 code.env).Λ #receive-in-place code.function (code.unfolded 𝓤 𝓛.H 𝓜 𝓡)
-    (in-place-meets 𝓛 𝓜.mem 𝓡.run (tables_of 𝓤 𝓛.H 𝓜 (tables 𝓤 𝓛.H 𝓜 𝓡 code.env))
+    (in_place_meets 𝓛 𝓜.mem 𝓡.run (tables_of 𝓤 𝓛.H 𝓜 (tables 𝓤 𝓛.H 𝓜 𝓡 code.env))
     (cited 𝓤 𝓛.H (Receive 𝓛 𝓜.mem 𝓡.run) 𝓜 𝓡 code.env #receive by-value-code.routine code.calls-receiver::receiving::receive
     (by-value-proved.met 𝓤 𝓛 𝓜 𝓡)))

@@ -44,13 +44,13 @@ use denote.Triple.Spec.{Meets, triple_of}
 use denote.Triple.Table.{entered, cited}
 use denote.Triple.Walked.{Stays, stay_ref, stay_none_slice, walk_of, Goes-ref, Goes-none_slice, Walks, ends_at, walked, walk_Meets}
 use denote.Exit.{yes}
-use Rattle.receiver.specs.SoftReceiving.{softReceive}
+use Rattle.receiver.specs.SoftReceiving.{soft_receive}
 use Rattle.records.specs.declared.Record.{Record}
 use Rattle.receiver.specs.declared.Received.{Received}
 use Rattle.records.specs.contracts.Record as rec
 use Rattle.records.proofs.Record.TheLaws as rec-laws
-use Rattle.receiver.proofs.Clauses.{both-shown}
-use Rattle.receiver.proofs.Values.{rec-vals, got-vals, is-answer, is-next, answer-val}
+use Rattle.receiver.proofs.Clauses.{both_shown}
+use Rattle.receiver.proofs.Values.{rec_vals, got_vals, is_answer, is_next, answer_val}
 use Rattle.receiver.specs.contracts.Received as got
 use Rattle.receiver.proofs.Received.TheLaws as got-laws
 use Rattle.receiver.specs.contracts.ReceiveAnswer as ans
@@ -99,7 +99,7 @@ module _ {M : Type 1} {𝓤 : Ura M} (𝓛 : Logic 𝓤) (at_mem : Memory → SP
 
   -- what receiving gives
   abbrev found : Received
-  found = softReceive t.now h s.now w.now
+  found = soft_receive t.now h s.now w.now
 
   -- what is owed at the exit
   abbrev Post : Val → SProp 𝓤
@@ -117,10 +117,10 @@ module _ {M : Type 1} {𝓤 : Ura M} (𝓛 : Logic 𝓤) (at_mem : Memory → SP
 
   -- what `receive_soft` is passed
   abbrev to : (Receive 𝓛 at_mem run).Ghost
-  to = (((κ', (κ'', (κ''', tt))), (q', (q'', (q''', tt))), tt, (h, (s, (t, (w, tt)))), (rec-vals h, (v ∷ [], (v' ∷ [], (v'' ∷ [], tt))))), tt)
+  to = (((κ', (κ'', (κ''', tt))), (q', (q'', (q''', tt))), tt, (h, (s, (t, (w, tt)))), (rec_vals h, (v ∷ [], (v' ∷ [], (v'' ∷ [], tt))))), tt)
 
   -- what it asks is at hand
-  goes : Is rec.the_row h (rec-vals h) → ent 𝓤 (⋆ 𝓛 ((‵ Own ⊛ ‵ Own') ∷ ‵ Own'' ∷ (‵ (flft κ' q') ⊛ ‵ (flft κ'' q'') ⊛ ‵ (flft κ''' q''') ⊛ ‵ ftrue) ∷ [])) ((Receive 𝓛 at_mem run).pre to)
+  goes : Is rec.the_row h (rec_vals h) → ent 𝓤 (⋆ 𝓛 ((‵ Own ⊛ ‵ Own') ∷ ‵ Own'' ∷ (‵ (flft κ' q') ⊛ ‵ (flft κ'' q'') ⊛ ‵ (flft κ''' q''') ⊛ ‵ ftrue) ∷ [])) ((Receive 𝓛 at_mem run).pre to)
   goes g =
       qed 𝓛 ((‵ Own ⊛ ‵ Own') ∷ ‵ Own'' ∷ (‵ (flft κ' q') ⊛ ‵ (flft κ'' q'') ⊛ ‵ (flft κ''' q''') ⊛ ‵ ftrue) ∷ []) ∵ split ! $ nothing ! $ move ! (3 ∷ 0 ∷ []) $ fjoin ! $
       move ! (2 ∷ 0 ∷ []) $ fjoin ! $ move ! (1 ∷ 0 ∷ []) $ fjoin ! $
@@ -132,18 +132,18 @@ module _ {M : Type 1} {𝓤 : Ura M} (𝓛 : Logic 𝓤) (at_mem : Memory → SP
   said r = ex_e 𝓤 _ (λ ws. snd∗ 𝓤 (sem 𝓛 (lasts by_value.ended (κ', (κ'', (κ''', tt))) (h, (s, (t, (w, tt)))) ws)) (fact 𝓤 (r ≡ found)))
 
   -- the exit: the borrow closed at the record that came back, and the answer, are what is owed
-  exits : (r : Received) → r ≡ found → Is got.the_row r (got-vals r)
+  exits : (r : Received) → r ≡ found → Is got.the_row r (got_vals r)
       → ent 𝓤 (⋆ 𝓛 (‵ (fobs γ ((rec.the_row).coded.code r.next)) ∷ ‵ (fbor κ (Body (mem rec.the_row) b o γ)) ∷ ‵ (flft κ q)
-      ∷ (‵ (flft κ' q') ⊛ ‵ (flft κ'' q'') ⊛ ‵ (flft κ''' q''') ⊛ ‵ ftrue) ∷ ‵ Own ∷ ‵ Own' ∷ ‵ Own'' ∷ [])) (Post (answer-val r))
+      ∷ (‵ (flft κ' q') ⊛ ‵ (flft κ'' q'') ⊛ ‵ (flft κ''' q''') ⊛ ‵ ftrue) ∷ ‵ Own ∷ ‵ Own' ∷ ‵ Own'' ∷ [])) (Post (answer_val r))
   exits r e is =
       qed 𝓛 (‵ (fobs γ ((rec.the_row).coded.code r.next)) ∷ ‵ (fbor κ (Body (mem rec.the_row) b o γ)) ∷ ‵ (flft κ q)
       ∷ (‵ (flft κ' q') ⊛ ‵ (flft κ'' q'') ⊛ ‵ (flft κ''' q''') ⊛ ‵ ftrue) ∷ ‵ Own ∷ ‵ Own' ∷ ‵ Own'' ∷ []) ∵
       suffices ! _ (ends_at 𝓛 in_place.ended stayed (in_place.clauses 𝓛 at_mem run) (((κ, (κ', (κ'', (κ''', tt)))), (q, (q', (q'', (q''', tt)))), tt, a, at), tt)
-      (answer-val r) r.answer (r.next, (tt, (tt, (tt, tt)))) (tt, (tt, (tt, (tt, tt))))) $
-      suffices ! _ (both-shown 𝓤 (r.answer ≡ found.answer) (r.next ≡ found.next) _ (λ i. (e i).answer) (λ i. (e i).next)) $
+      (answer_val r) r.answer (r.next, (tt, (tt, (tt, tt)))) (tt, (tt, (tt, (tt, tt))))) $
+      suffices ! _ (both_shown 𝓤 (r.answer ≡ found.answer) (r.next ≡ found.next) _ (λ i. (e i).answer) (λ i. (e i).next)) $
       move ! (2 ∷ 3 ∷ []) $ join ! $ frame ! $ feq_i ! (List Val) (vptr b o ∷ []) (vptr b o ∷ []) refl $ fjoin3 ! $ nothing ! $
       move ! (4 ∷ 0 ∷ []) $ fjoin ! $ move ! (3 ∷ 0 ∷ []) $ fjoin ! $ move ! (2 ∷ 0 ∷ []) $ fjoin ! $ move ! (1 ∷ 0 ∷ []) $ fjoin ! $
-      owned ! ans.the_row (Is ans.the_row) (enums.makes ans.the_type ans-laws.the_plain 𝓛) r.answer _ (is-answer r is) $
+      owned ! ans.the_row (Is ans.the_row) (enums.makes ans.the_type ans-laws.the_plain 𝓛) r.answer _ (is_answer r is) $
       move ! (1 ∷ 0 ∷ []) $ done !
 
   module _ (C : Calls 𝓤 H) (Λ : Loops 𝓤 H) (fm : FmC 𝓤 H 𝓛.laws C) (known : Triple 𝓤 (C #receive) (Receive 𝓛 at_mem run)) where
@@ -164,13 +164,13 @@ module _ {M : Type 1} {𝓤 : Ura M} (𝓛 : Logic 𝓤) (at_mem : Memory → SP
         -- the borrow is opened
         move ! (15 ∷ []) $ fsplit ! $ fsplit3 ! $ drop ! $ move ! (17 ∷ []) $ split ! $ move ! (2 ∷ 3 ∷ 0 ∷ []) $
         opens ! tt rec.the_row {h = h} b o (λ vs.
-        spelt ! rec.the_row (Is rec.the_row) (shows 𝓛 rec.the_row) rec-vals (structs.tells rec.the_type rec-laws.the_laws) full_share h vs b o $
-        move ! (1 ∷ []) $ peeks ! rec.the_row (Is rec.the_row) (shows 𝓛 rec.the_row) h (rec-vals h) (λ g. move ! (1 ∷ 0 ∷ []) $
+        spelt ! rec.the_row (Is rec.the_row) (shows 𝓛 rec.the_row) rec_vals (structs.tells rec.the_type rec-laws.the_laws) full_share h vs b o $
+        move ! (1 ∷ []) $ peeks ! rec.the_row (Is rec.the_row) (shows 𝓛 rec.the_row) h (rec_vals h) (λ g. move ! (1 ∷ 0 ∷ []) $
         -- [the record's cell; what a record owns; the open borrow; obs; auth; the slices' tokens; what the slices own; _6; …; _5; …; _4; …; _3; …; _2; …;
         --  _1; …; room for _0; …]
         -- the record is copied out
         assigns ! (of_opd ! (load ! (from ! (hop ! (look ! 17 refl) (stop !))) (look_raw ! 0 refl))) (from ! (stop !))
-        (init ! 7 refl ((structs.lawful rec.the_type rec-laws.the_laws 𝓛).typed h (rec-vals h) g).0) $
+        (init ! 7 refl ((structs.lawful rec.the_type rec-laws.the_laws 𝓛).typed h (rec_vals h) g).0) $
         -- `receive_soft` is called; each slice can be had twice, and one is kept for the exit
         move ! (6 ∷ []) $ fsplit ! $ use1 𝓛 (‵ Own ⊛ ‵ Own) ((shr_slice_copy 𝓛 (named 1) κ' u8).twice s (v ∷ [])) $ split ! $
         move ! (2 ∷ []) $ fsplit ! $ use1 𝓛 (‵ Own' ⊛ ‵ Own') ((shr_slice_copy 𝓛 (named 2) κ'' u8).twice t (v' ∷ [])) $ split ! $
@@ -189,17 +189,17 @@ module _ {M : Type 1} {𝓤 : Ura M} (𝓛 : Logic 𝓤) (at_mem : Memory → SP
         land ! (from ! (stop !)) (init ! 13 refl ((structs.lawful got.the_type got-laws.the_laws 𝓛).typed r _ is₀).0) $
         rewrite ! 13 (λ (x : Val). ‵ (fat full_share got-laws.mir l₅ 0 x)) (ap only (structs.tells got.the_type got-laws.the_laws r _ is₀)) refl $
         rewrite ! 0 (λ (x : Val). ‵ ((got.the_row).own_val r (x ∷ []))) (ap only (structs.tells got.the_type got-laws.the_laws r _ is₀)) refl $
-        peeks ! got.the_row (Is got.the_row) (shows 𝓛 got.the_row) r (got-vals r) (λ is.
+        peeks ! got.the_row (Is got.the_row) (shows 𝓛 got.the_row) r (got_vals r) (λ is.
         -- its record is stored behind the reference
         assigns ! (of_opd ! (load ! (from ! (fld ! refl (stop !))) (look_in ! 13 (sub ! 1 refl (whole !))))) (from ! (hop ! (look ! 21 refl) (stop !)))
-        (store_raw ! 6 refl ((structs.lawful rec.the_type rec-laws.the_laws 𝓛).typed r.next _ (is-next r is)).0) $
+        (store_raw ! 6 refl ((structs.lawful rec.the_type rec-laws.the_laws 𝓛).typed r.next _ (is_next r is)).0) $
         -- its answer is the result
         assigns ! (of_opd ! (load ! (from ! (fld ! refl (stop !))) (look_in ! 13 (sub ! 0 refl (whole !))))) (from ! (stop !))
-        (init ! 23 refl ((enums.lawful ans.the_type ans-laws.the_laws 𝓛 tt).typed r.answer _ (is-answer r is)).0) $
+        (init ! 23 refl ((enums.lawful ans.the_type ans-laws.the_laws 𝓛 tt).typed r.answer _ (is_answer r is)).0) $
         -- the borrow is closed at the record that came back
         drop ! $ move ! (6 ∷ []) $ drop ! $
-        owned ! rec.the_row (Is rec.the_row) (structs.makes rec.the_type rec-laws.the_plain 𝓛) r.next _ (is-next r is) $
-        move ! (6 ∷ 0 ∷ 7 ∷ 8 ∷ 9 ∷ []) $ closes ! tt rec.the_row r.next (rec-vals r.next) b o $
+        owned ! rec.the_row (Is rec.the_row) (structs.makes rec.the_type rec-laws.the_plain 𝓛) r.next _ (is_next r is) $
+        move ! (6 ∷ 0 ∷ 7 ∷ 8 ∷ 9 ∷ []) $ closes ! tt rec.the_row r.next (rec_vals r.next) b o $
         -- [obs; the borrow; its token; the slices' tokens; what the confidences own; true; what the order owns; what the frame owns; _6; …; to; _0; …]
         -- the result is handed over, and the cells of the locals are given back
         returns ! (look ! 20 refl) $ forget ! 8 refl $ forget ! 10 refl $ forget ! 12 refl $ forget ! 14 refl $ forget ! 16 refl $ forget ! 18 refl $ forget ! 20 refl $
@@ -211,9 +211,9 @@ module _ {M : Type 1} {𝓤 : Ura M} (𝓛 : Logic 𝓤) (at_mem : Memory → SP
   -- the walk from any arguments
   open 𝓛 use {H}
 
-  in-place-walks : (C : Calls 𝓤 H) (Λ : Loops 𝓤 H) → FmC 𝓤 H 𝓛.laws C → Triple 𝓤 (C #receive) (Receive 𝓛 at_mem run)
+  in_place_walks : (C : Calls 𝓤 H) (Λ : Loops 𝓤 H) → FmC 𝓤 H 𝓛.laws C → Triple 𝓤 (C #receive) (Receive 𝓛 at_mem run)
       → Walks 𝓛 in_place.ended stayed (WpFn 𝓤 H C Λ code.function) (in_place.clauses 𝓛 at_mem run)
-  in-place-walks C Λ fm known =
+  in_place_walks C Λ fm known =
       walked 𝓛 in_place.ended stayed (in_place.clauses 𝓛 at_mem run) (WpFn 𝓤 H C Λ code.function)
       (λ κs. (shr_vals, (shr_slice_vals, (shr_slice_vals, (shr_slice_vals, tt)))))
       (λ κs. (mut_Tells (named 0) κs.0 rec.the_row, (shr_slice_Tells (named 1) κs.1.0 u8, (shr_slice_Tells (named 2) κs.1.1.0 u8, (shr_slice_Tells (named 3) κs.1.1.1.0 u8, tt)))))
@@ -221,9 +221,9 @@ module _ {M : Type 1} {𝓤 : Ura M} (𝓛 : Logic 𝓤) (at_mem : Memory → SP
       a.0.ref_ptr.0 a.0.ref_ptr.1 a.0.ghost_name a.0.now a.1.0 a.1.1.0 a.1.1.1.0 C Λ fm known are.1.0 are.1.1.0 are.1.1.1.0))
 
   -- where `receive_soft` meets its contract, so does `receive_soft_in_place`
-  in-place-meets : (𝓣 : Tables 𝓤 H) → Triple 𝓤 (𝓣.C #receive) (Receive 𝓛 at_mem run)
+  in_place_meets : (𝓣 : Tables 𝓤 H) → Triple 𝓤 (𝓣.C #receive) (Receive 𝓛 at_mem run)
       → Meets 𝓛 in_place.signature (WpFn 𝓤 H 𝓣.C 𝓣.Λ code.function) (in_place.spec 𝓛 at_mem run)
-  in-place-meets 𝓣 known =
+  in_place_meets 𝓣 known =
       walk_Meets 𝓛 in_place.ended stayed (
         Goes-ref 𝓛 4 0 tt (plain (λ _. rec.the_row)),
         (
@@ -232,13 +232,13 @@ module _ {M : Type 1} {𝓤 : Ura M} (𝓛 : Logic 𝓤) (at_mem : Memory → SP
         ),
       )
       (in_place.clauses 𝓛 at_mem run) (WpFn 𝓤 H 𝓣.C 𝓣.Λ code.function) (WpFn-mono 𝓤 H 𝓛.laws 𝓣 code.function)
-      (in-place-walks 𝓣.C 𝓣.Λ (fm_of 𝓤 H 𝓛.laws 𝓣) known)
+      (in_place_walks 𝓣.C 𝓣.Λ (fm_of 𝓤 H 𝓛.laws 𝓣) known)
 
-pub receive-soft-in-place-spec : {M : Type 1} → stated.statement M
+pub receive_soft_in_place_spec : {M : Type 1} → stated.statement M
 unfolding code.routine tables_of
-receive-soft-in-place-spec 𝓤 𝓛 𝓜 𝓡 =
+receive_soft_in_place_spec 𝓤 𝓛 𝓜 𝓡 =
     entered 𝓤 𝓛.H (triple_of 𝓛 in_place.signature (in_place.spec 𝓛 𝓜.mem 𝓡.run))
     (tables 𝓤 𝓛.H 𝓜 𝓡 code.env).C (tables 𝓤 𝓛.H 𝓜 𝓡 code.env).Λ #receive-in-place code.function (code.unfolded 𝓤 𝓛.H 𝓜 𝓡)
-    (in-place-meets 𝓛 𝓜.mem 𝓡.run (tables_of 𝓤 𝓛.H 𝓜 (tables 𝓤 𝓛.H 𝓜 𝓡 code.env))
+    (in_place_meets 𝓛 𝓜.mem 𝓡.run (tables_of 𝓤 𝓛.H 𝓜 (tables 𝓤 𝓛.H 𝓜 𝓡 code.env))
     (cited 𝓤 𝓛.H (Receive 𝓛 𝓜.mem 𝓡.run) 𝓜 𝓡 code.env #receive by-value-code.routine code.calls-receiver::soft-receiving::receive-soft
     (by-value-proved.met 𝓤 𝓛 𝓜 𝓡)))

@@ -2,8 +2,8 @@
 use mathlib.Core.Path.{subst⁻¹}
 use native.Mathlib.Omega.{arith}
 use Rattle.bits.proofs.Tests.{T_true}
-use Rattle.sets.proofs.Ranges.{IndexRanges, set-ranges}
-use Rattle.records.proofs.Validity.{valid-g2}
+use Rattle.sets.proofs.Ranges.{IndexRanges, set_ranges}
+use Rattle.records.proofs.Validity.{valid_g2}
 use Rattle.receiver.specs.Steps.{accepted}
 use Rattle.receiver.proofs.steps.accept.Statement.{statement}
 use Rattle.receiver.proofs.steps.accept.Tie as tie
@@ -19,14 +19,14 @@ kind-of-requires c κs = tt
 
 -- the set's indices are in their ranges
 ranges : (c : tie.After-indices-of) → IndexRanges c.indices-of.result
-ranges c = subst⁻¹ IndexRanges c.indices-of.ensures (set-ranges c.before.args.set (T_true _ c.before.requires.1))
+ranges c = subst⁻¹ IndexRanges c.indices-of.ensures (set_ranges c.before.args.set (T_true _ c.before.requires.1))
 
 first-level-of-requires : tie.Need-first-level-of-requires
 first-level-of-requires c κs =
     let x = c.before.before in
     let s = x.before in
     let r = ranges x in
-    (omega (arith, r.g2), omega (arith, r.g1), omega (arith, valid-g2 s.args.rec (T_true _ s.requires.0)))
+    (omega (arith, r.g2), omega (arith, r.g1), omega (arith, valid_g2 s.args.rec (T_true _ s.requires.0)))
 
 level-of-requires : tie.Need-level-of-requires
 level-of-requires c κs = (ranges c.before.before.before).g2

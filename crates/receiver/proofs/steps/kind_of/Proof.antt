@@ -14,8 +14,8 @@ enum-told-2 c = omega arith
 returns : tie.Need-returns
 returns c = ap kind_of (sym c.enum_told.given.1)
 
-returns-2 : tie.Need-returns-2
-returns-2 c = ap kind_of (sym c.enum-told2.given.1)
+returns_2 : tie.Need-returns-2
+returns_2 c = ap kind_of (sym c.enum-told2.given.1)
 
 pub kind-of-spec : {M : Type 1} → statement M
-kind-of-spec = tie.close (tie.spec enum_told enum-told-2 returns returns-2)
+kind-of-spec = tie.close (tie.spec enum_told enum-told-2 returns returns_2)

@@ -23,10 +23,10 @@ returns c =
     let a = c.before.before.before.before.args in
     c.accept.ensures ∙ ap (step a.rec a.sync) (sym c.before.before.reading.given.1)
 
-returns-2 : tie.Need-returns-2
-returns-2 c =
+returns_2 : tie.Need-returns-2
+returns_2 c =
     let a = c.before.before.before.args in
     c.repeat.ensures ∙ ap (step a.rec a.sync) (sym c.before.enum_told.given.1)
 
 pub step_spec : {M : Type 1} → statement M
-step_spec = tie.close (tie.spec enum-known-reading accept-requires enum_told repeat-requires returns returns-2)
+step_spec = tie.close (tie.spec enum-known-reading accept-requires enum_told repeat-requires returns returns_2)

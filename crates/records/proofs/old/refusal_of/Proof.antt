@@ -9,8 +9,8 @@ in-ranges-requires c κs = tt
 returns : tie.Need-returns
 returns c = simp (sym c.before.in-ranges.ensures ∙ c.if1.true)
 
-returns-2 : tie.Need-returns-2
-returns-2 c = simp (sym c.before.in-ranges.ensures ∙ c.if1.false)
+returns_2 : tie.Need-returns-2
+returns_2 c = simp (sym c.before.in-ranges.ensures ∙ c.if1.false)
 
 pub refusal-of-spec : {M : Type 1} → statement M
-refusal-of-spec = tie.close (tie.spec in-ranges-requires returns returns-2)
+refusal-of-spec = tie.close (tie.spec in-ranges-requires returns returns_2)

@@ -7,20 +7,20 @@ use native.Mathlib.Omega.{arith}
 use lib.ListN.{length, drop, get_or, drop_of_length-le}
 use lib.Seq.{drop-cons}
 use borrow.Author.Rules.{rules}
-use Rattle.bits.specs.Bits.{addOne}
-use Rattle.bits.proofs.Count.{add-bit}
-use Rattle.records.specs.Records.{acceptedKind, repeatsIn}
+use Rattle.bits.specs.Bits.{add_one}
+use Rattle.bits.proofs.Count.{add_bit}
+use Rattle.records.specs.Records.{accepted_kind, repeats_in}
 use Rattle.records.specs.declared.FrameKind.{FrameKind}
 use Rattle.records.proofs.repeats.count_repeats.Statement.{statement}
 use Rattle.records.proofs.repeats.count_repeats.Tie as tie
 
 -- the repeats from place i on, by the kind at i
 from_place : (kinds : List FrameKind) (i : ℕ) → i < length kinds
-    → repeatsIn (drop i kinds) ≡ addOne (get_or kinds i acceptedKind).repeat (repeatsIn (drop (i + 1) kinds))
-from_place kinds i h = rw add-one (ap repeatsIn (drop-cons kinds i acceptedKind h))
+    → repeats_in (drop i kinds) ≡ add_one (get_or kinds i accepted_kind).repeat (repeats_in (drop (i + 1) kinds))
+from_place kinds i h = rw add-one (ap repeats_in (drop-cons kinds i accepted_kind h))
 
 abbrev invariant-loop : tie.invariant-loop
-invariant-loop kinds n₀ i₀ n i = (i ≤ 16) × (n ≤ i) × (length kinds ≡ 16) × (n + repeatsIn (drop i kinds) ≡ repeatsIn kinds)
+invariant-loop kinds n₀ i₀ n i = (i ≤ 16) × (n ≤ i) × (length kinds ≡ 16) × (n + repeats_in (drop i kinds) ≡ repeats_in kinds)
 
 abbrev decreases-loop : tie.decreases-loop
 decreases-loop kinds n₀ i₀ n i = 16 - i
@@ -48,7 +48,7 @@ loop-again c =
     let i = c.before.before.before.loop.i in
     let k = c.before.before.before.before.args.t1 in
     let h : i < length k = omega arith in
-    let e = from_place k i h ∙ add-bit (get_or k i acceptedKind).repeat (repeatsIn (drop (i + 1) k)) in
+    let e = from_place k i h ∙ add_bit (get_or k i accepted_kind).repeat (repeats_in (drop (i + 1) k)) in
     (search rules, search rules, search rules, omega (arith, e, c.bit-number.ensures.0))
 
 returns : tie.Need-returns invariant-loop decreases-loop
@@ -57,7 +57,7 @@ returns c =
     let e : c.before.loop.i ≡ 16 = omega arith in
     let m : length k ≤ 16 = omega arith in
     let d : drop c.before.loop.i k ≡ [] = rw e (drop_of_length-le k m) in
-    omega (arith, ap repeatsIn d)
+    omega (arith, ap repeats_in d)
 
 pub count-repeats-spec : {M : Type 1} → statement M
 count-repeats-spec = tie.close (tie.spec invariant-loop decreases-loop loop-holds array-copy-out-kind bit-number-requires add-n add-i loop-less loop-again returns)

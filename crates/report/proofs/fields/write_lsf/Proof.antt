@@ -2,8 +2,8 @@
 use mathlib.Core.Path.{◌∙◌}
 use mathlib.Core.List.{◌++◌}
 use Rattle.text.specs.Text.{decimal, field}
-use Rattle.report.specs.Lines.{lsfText}
-use Rattle.text.proofs.Parts.{part-append}
+use Rattle.report.specs.Lines.{lsf_text}
+use Rattle.text.proofs.Parts.{part_append}
 use Rattle.report.proofs.fields.write_lsf.Statement.{statement}
 use Rattle.report.proofs.fields.write_lsf.Tie as tie
 
@@ -28,7 +28,7 @@ same_length c =
     d4.put-byte4.auto.1.1.1.0 ∙ d3.put-byte3.auto.1.1.1.0 ∙ d2.put-byte2.auto.1.1.1.0 ∙ d1.put_byte.auto.1.1.1.0
 
 returns : tie.Need-returns
-unfolding lsfText
+unfolding lsf_text
 returns c =
     let d4 = c.before.before in
     let d3 = d4.before.before.before.before in
@@ -40,9 +40,9 @@ returns c =
     let p2 = field "," (decimal a.x.l2) in
     let p3 = field "," (decimal a.x.l3) in
     let p4 = field "," (decimal a.x.l4) in
-    let w2 = part-append l _ _ a.at _ _ _ _ p1 p2 d1.put_byte.ensures d2.put-byte2.ensures in
-    let w3 = part-append l _ _ a.at _ _ _ _ (p1 ++ p2) p3 w2 d3.put-byte3.ensures in
-    part-append l _ _ a.at _ _ _ _ (p1 ++ p2 ++ p3) p4 w3 d4.put-byte4.ensures
+    let w2 = part_append l _ _ a.at _ _ _ _ p1 p2 d1.put_byte.ensures d2.put-byte2.ensures in
+    let w3 = part_append l _ _ a.at _ _ _ _ (p1 ++ p2) p3 w2 d3.put-byte3.ensures in
+    part_append l _ _ a.at _ _ _ _ (p1 ++ p2 ++ p3) p4 w3 d4.put-byte4.ensures
 
 pub write-lsf-spec : {M : Type 1} → statement M
 write-lsf-spec = tie.close (tie.spec put-byte-requires put-byte-requires-2 put-byte-requires-3 put-byte-requires-4 same_length returns)

@@ -3,7 +3,7 @@ use mathlib.Core.List.{[], ◌∷◌, ◌++◌}
 use native.Mathlib.Omega.{arith}
 use lib.Dec.{lit≤}
 use Rattle.text.specs.Text.{ascii, field}
-use Rattle.text.proofs.Parts.{part-within}
+use Rattle.text.proofs.Parts.{part_within}
 use Rattle.report.proofs.fields.write_pitch.Statement.{statement}
 use Rattle.report.proofs.fields.write_pitch.Tie as tie
 
@@ -32,13 +32,13 @@ returns c =
     let n = t.before.before in
     let a = n.before.before.args in
     let p = rw n.with-letter.ensures at d.put-name.ensures in
-    rw t.enum_told.given.1 (part-within a.line.now _ a.at _ 15 17 (field " kind=" (a.letter ∷ []) ++ ascii " pitch=-") (lit≤ tt) p)
+    rw t.enum_told.given.1 (part_within a.line.now _ a.at _ 15 17 (field " kind=" (a.letter ∷ []) ++ ascii " pitch=-") (lit≤ tt) p)
 
-same-length-2 : tie.Need-same-length-2
-same-length-2 c = c.before.before.put_byte.auto.1.1.1.0
+same_length_2 : tie.Need-same-length-2
+same_length_2 c = c.before.before.put_byte.auto.1.1.1.0
 
-returns-2 : tie.Need-returns-2
-returns-2 c =
+returns_2 : tie.Need-returns-2
+returns_2 c =
     let d = c.before.before in
     let t = d.before.before.before in
     let n = t.before.before in
@@ -55,5 +55,5 @@ write-pitch-spec =
     put-byte-requires
     same_length
     returns
-    same-length-2
-    returns-2)
+    same_length_2
+    returns_2)

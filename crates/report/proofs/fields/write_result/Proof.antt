@@ -4,8 +4,8 @@ use mathlib.Core.List.{[], ◌∷◌, ◌++◌}
 use Prim.Native.Nat.{◌^◌, ◌<◌}
 use native.Mathlib.Omega.{arith}
 use Rattle.text.specs.Text.{ascii, decimal, field}
-use Rattle.report.specs.Lines.{setText, flag, resultText}
-use Rattle.text.proofs.Parts.{part-append, part-group, level-part}
+use Rattle.report.specs.Lines.{set_text, flag, result_text}
+use Rattle.text.proofs.Parts.{part_append, part_group, level_part}
 use Rattle.report.proofs.fields.write_result.Statement.{statement}
 use Rattle.report.proofs.fields.write_result.Tie as tie
 
@@ -62,7 +62,7 @@ second_lt : (c : tie.After-put-number2) → (begun (set-put (first-put c))).args
 second_lt c = omega arith
 
 returns : tie.Need-returns
-unfolding resultText
+unfolding result_text
 returns c =
     let d4 = c.before.before in
     let d3 = second-put d4 in
@@ -72,21 +72,21 @@ returns c =
     let a = (begun d1).args in
     let l = a.line.now in
     let r = a.result in
-    let p1 = field " kind=" (k.letter-of.result ∷ []) ++ setText r.set in
+    let p1 = field " kind=" (k.letter-of.result ∷ []) ++ set_text r.set in
     let p2 = field " g1=" (decimal r.first) in
     let p3 = field " g2=" (decimal r.second) in
     let sync = field " sync=" (flag r.sync) in
     let fixed = field " fixed=" (decimal r.repaired) in
     let mute = field " mute=" (flag r.mute) in
-    let g1 = level-part _ _ _ _ (ascii " g1=") r.first (first-lt d2) d2.put-number.ensures.0 in
-    let g2 = level-part _ _ _ _ (ascii " g2=") r.second (second_lt d3) d3.put-number2.ensures.0 in
-    let w2 = part-append l _ _ a.at _ _ _ _ p1 p2 d1.write-set.ensures g1 in
-    let w3 = part-append l _ _ a.at _ _ _ _ (p1 ++ p2) p3 w2 g2 in
+    let g1 = level_part _ _ _ _ (ascii " g1=") r.first (first-lt d2) d2.put-number.ensures.0 in
+    let g2 = level_part _ _ _ _ (ascii " g2=") r.second (second_lt d3) d3.put-number2.ensures.0 in
+    let w2 = part_append l _ _ a.at _ _ _ _ p1 p2 d1.write-set.ensures g1 in
+    let w3 = part_append l _ _ a.at _ _ _ _ (p1 ++ p2) p3 w2 g2 in
     let p = p1 ++ p2 ++ p3 in
-    let w4 = part-append l _ _ a.at _ _ 86 25 p (sync ++ (fixed ++ (mute ++ ascii "\n"))) w3 d4.write-state.ensures in
-    let s = part-group l _ a.at _ 111 p sync (fixed ++ (mute ++ ascii "\n")) w4 in
-    let f = part-group l _ a.at _ 111 (p ++ sync) fixed (mute ++ ascii "\n") s in
-    rw (← k.letter-of.ensures) (part-group l _ a.at _ 111 (p ++ sync ++ fixed) mute (ascii "\n") f)
+    let w4 = part_append l _ _ a.at _ _ 86 25 p (sync ++ (fixed ++ (mute ++ ascii "\n"))) w3 d4.write-state.ensures in
+    let s = part_group l _ a.at _ 111 p sync (fixed ++ (mute ++ ascii "\n")) w4 in
+    let f = part_group l _ a.at _ 111 (p ++ sync) fixed (mute ++ ascii "\n") s in
+    rw (← k.letter-of.ensures) (part_group l _ a.at _ 111 (p ++ sync ++ fixed) mute (ascii "\n") f)
 
 pub write-result-spec : {M : Type 1} → statement M
 write-result-spec =

@@ -6,9 +6,9 @@ use native.Mathlib.Omega.{arith}
 use lib.Dec.{lit≤}
 use lib.ListN.{length}
 use Rattle.text.specs.Text.{field}
-use Rattle.sets.specs.Sets.{indicesIn}
-use Rattle.report.specs.Lines.{pitchText, lsfText, voicingText, setText}
-use Rattle.text.proofs.Parts.{Part, part-append, part-within}
+use Rattle.sets.specs.Sets.{indices_in}
+use Rattle.report.specs.Lines.{pitch_text, lsf_text, voicing_text, set_text}
+use Rattle.text.proofs.Parts.{Part, part_append, part_within}
 use Rattle.report.proofs.fields.write_set.Statement.{statement}
 use Rattle.report.proofs.fields.write_set.Tie as tie
 
@@ -48,16 +48,16 @@ begun c = (pitch-put c).before.before.before
 
 -- what comes after the indices completes the set
 whole : (c : tie.After-write-lsf) (after : List ℕ) (end : ℕ) → let a = (begun c).args in
-    Part c.write-lsf.new.1.0 c.write-lsf.result (voicingText a.set) 21 after end → Part a.line.now a.at (field " kind=" (a.letter ∷ []) ++ setText a.set) 58 after end
-unfolding setText
+    Part c.write-lsf.new.1.0 c.write-lsf.result (voicing_text a.set) 21 after end → Part a.line.now a.at (field " kind=" (a.letter ∷ []) ++ set_text a.set) 58 after end
+unfolding set_text
 whole c after end v =
     let i = c.before.before in
     let p = pitch-put c in
     let a = (begun c).args in
-    let k = field " kind=" (a.letter ∷ []) ++ pitchText a.set in
-    let x = lsfText (indicesIn a.set) in
-    let w = part-append a.line.now _ _ a.at _ _ _ _ k x p.write-pitch.ensures (rw i.indices-of.ensures at c.write-lsf.ensures) in
-    part-append a.line.now _ _ a.at _ _ _ _ (k ++ x) (voicingText a.set) w v
+    let k = field " kind=" (a.letter ∷ []) ++ pitch_text a.set in
+    let x = lsf_text (indices_in a.set) in
+    let w = part_append a.line.now _ _ a.at _ _ _ _ k x p.write-pitch.ensures (rw i.indices-of.ensures at c.write-lsf.ensures) in
+    part_append a.line.now _ _ a.at _ _ _ _ (k ++ x) (voicing_text a.set) w v
 
 -- the line's length up to there
 kept : (c : tie.After-write-lsf) → length c.write-lsf.new.1.0 ≡ length (begun c).args.line.now
@@ -71,23 +71,23 @@ same_length c =
 returns : tie.Need-returns
 returns c =
     let t = c.before.before.before.before in
-    whole t.before.before.before.before _ _ (rw t.enum_told.given.1 (part-within _ _ _ _ 15 21 _ (lit≤ tt) c.before.before.put-name.ensures))
+    whole t.before.before.before.before _ _ (rw t.enum_told.given.1 (part_within _ _ _ _ 15 21 _ (lit≤ tt) c.before.before.put-name.ensures))
 
-same-length-2 : tie.Need-same-length-2
-same-length-2 c =
+same_length_2 : tie.Need-same-length-2
+same_length_2 c =
     let d3 = c.before.before in
     let d2 = d3.before.before.before.before in
     let d1 = d2.before.before.before.before in
     d3.put-byte3.auto.1.1.1.0 ∙ d2.put-byte2.auto.1.1.1.0 ∙ d1.put_byte.auto.1.1.1.0 ∙ kept d1.before.before.before.before.before.before.before
 
-returns-2 : tie.Need-returns-2
-returns-2 c =
+returns_2 : tie.Need-returns-2
+returns_2 c =
     let d3 = c.before.before in
     let d2 = d3.before.before.before.before in
     let d1 = d2.before.before.before.before in
     let t = d1.before.before.before in
-    let w = part-append _ _ _ _ _ _ _ _ _ _ d1.put_byte.ensures d2.put-byte2.ensures in
-    whole t.before.before.before.before _ _ (rw t.set.given.1 (part-append _ _ _ _ _ _ _ _ _ _ w d3.put-byte3.ensures))
+    let w = part_append _ _ _ _ _ _ _ _ _ _ d1.put_byte.ensures d2.put-byte2.ensures in
+    whole t.before.before.before.before _ _ (rw t.set.given.1 (part_append _ _ _ _ _ _ _ _ _ _ w d3.put-byte3.ensures))
 
 pub write-set-spec : {M : Type 1} → statement M
 write-set-spec =
@@ -104,5 +104,5 @@ write-set-spec =
     put-byte-requires-3
     same_length
     returns
-    same-length-2
-    returns-2)
+    same_length_2
+    returns_2)

@@ -2,7 +2,7 @@
 use mathlib.Core.Path.{◌∙◌}
 use mathlib.Core.List.{[], ◌∷◌, ◌++◌}
 use Rattle.text.specs.Text.{ascii, decimal, field}
-use Rattle.text.proofs.Parts.{part-append}
+use Rattle.text.proofs.Parts.{part_append}
 use Rattle.report.proofs.fields.write_state.Statement.{statement}
 use Rattle.report.proofs.fields.write_state.Tie as tie
 
@@ -40,7 +40,7 @@ returns c =
     let mute = field " mute=" (m.before.flag-of2.result ∷ []) ++ ascii "\n" in
     let p = rw f.with-letter.ensures at e.put_byte.ensures in
     let q = rw m.with-letter2.ensures at d.put-name.ensures in
-    rw (← f.before.flag-of.ensures, ← m.before.flag-of2.ensures) (part-append a.line.now _ _ a.at _ _ _ _ fixed mute p q)
+    rw (← f.before.flag-of.ensures, ← m.before.flag-of2.ensures) (part_append a.line.now _ _ a.at _ _ _ _ fixed mute p q)
 
 pub write-state-spec : {M : Type 1} → statement M
 write-state-spec =

@@ -3,9 +3,9 @@ use mathlib.Core.List.{◌++◌}
 use native.Mathlib.Omega.{arith}
 use lib.ListN.{take}
 use Rattle.text.specs.Text.{decimal}
-use Rattle.text.proofs.Answers.{owed-put}
-use Rattle.text.proofs.Decimals.{decimal-length}
-use Rattle.text.proofs.Parts.{field-le}
+use Rattle.text.proofs.Answers.{owed_put}
+use Rattle.text.proofs.Decimals.{decimal_length}
+use Rattle.text.proofs.Parts.{field_le}
 use Rattle.report.proofs.parts.put_byte.Statement.{statement}
 use Rattle.report.proofs.parts.put_byte.Tie as tie
 
@@ -22,8 +22,8 @@ returns : tie.Need-returns
 returns c =
     let d = c.before.before.before in
     let a = d.before.before.before.args in
-    let p = owed-put (take a.width a.name ++ decimal a.n) a.at a.line.now _ _ _ d.byte.ensures c.end_of_lem.ensures in
-    (p, field-le a.name a.width (decimal a.n) 3 (decimal-length 2 a.n (omega arith)))
+    let p = owed_put (take a.width a.name ++ decimal a.n) a.at a.line.now _ _ _ d.byte.ensures c.end_of_lem.ensures in
+    (p, field_le a.name a.width (decimal a.n) 3 (decimal_length 2 a.n (omega arith)))
 
 pub put-byte-spec : {M : Type 1} → statement M
 put-byte-spec = tie.close (tie.spec byte-requires end-of-requires same_length returns)

@@ -6,8 +6,8 @@ use native.Mathlib.Omega.{arith}
 use lib.ListN.{replicate}
 use lib.Seq.{length-take-le}
 use Rattle.text.specs.Text.{decimal, field}
-use Rattle.report.specs.Lines.{lastLine}
-use Rattle.text.proofs.Parts.{Part, part-append, ended-lt, ended-le, ended-owes}
+use Rattle.report.specs.Lines.{last_line}
+use Rattle.text.proofs.Parts.{Part, part_append, ended_lt, ended_le, ended_owes}
 use Rattle.report.proofs.summary.last_line.Statement.{statement}
 use Rattle.report.proofs.summary.last_line.Tie as tie
 
@@ -33,8 +33,8 @@ module _ (c : tie.After-put-number3) where
   whole : Part (replicate 144 10) 0 text 82 c.put-number3.new.1.1.1.0 c.put-number3.result
   whole =
       let l : List ℕ = replicate 144 10 in
-      let w = part-append l _ _ 0 _ _ _ _ (field "frames=" (decimal begun.args.frames)) (field " repeats=" (decimal begun.args.repeats)) first.put-number.ensures second.put-number2.ensures in
-      part-append l _ _ 0 _ _ _ _ two (field " left=" (decimal begun.args.left)) w c.put-number3.ensures
+      let w = part_append l _ _ 0 _ _ _ _ (field "frames=" (decimal begun.args.frames)) (field " repeats=" (decimal begun.args.repeats)) first.put-number.ensures second.put-number2.ensures in
+      part_append l _ _ 0 _ _ _ _ two (field " left=" (decimal begun.args.left)) w c.put-number3.ensures
 
 slice-aggregate-put-number : tie.Need-slice-aggregate-put-number
 slice-aggregate-put-number c = omega arith
@@ -55,12 +55,12 @@ put-number-requires-3 : tie.Need-put-number-requires-3
 put-number-requires-3 c κs = tt
 
 add-line : tie.Need-overflow-add-line
-add-line c = record { fits = omega (arith, ended-lt 144 _ (text c.before) _ 82 (whole c.before) (omega arith)) }
+add-line c = record { fits = omega (arith, ended_lt 144 _ (text c.before) _ 82 (whole c.before) (omega arith)) }
 
 array-share-prefix-line : tie.Need-array-share-prefix-line
 array-share-prefix-line c =
     let w = c.before in
-    let e = ended-lt 144 _ (text w) _ 82 (whole w) (omega arith) in
+    let e = ended_lt 144 _ (text w) _ 82 (whole w) (omega arith) in
     omega (arith, w.put-number3.auto.1.1.1.0, (second w).put-number2.auto.1.1.1.0, (first w).put-number.auto.1.1.1.0)
 
 slice-aggregate-place : tie.Need-slice-aggregate-place
@@ -73,13 +73,13 @@ same_length : tie.Need-same-length
 same_length c = c.before.before.place.auto.1.0
 
 returns : tie.Need-returns
-unfolding lastLine
+unfolding last_line
 returns c =
     let p = c.before.before in
     let w = p.before.before.before.before in
     let a = (begun w).args in
-    let o = ended-owes 144 _ (text w) _ 82 (whole w) (omega arith) a.out.now _ a.at _ p.place.ensures in
-    (o.0, (o.1, ended-le 144 _ (text w) _ 82 (whole w) (omega arith)))
+    let o = ended_owes 144 _ (text w) _ 82 (whole w) (omega arith) a.out.now _ a.at _ p.place.ensures in
+    (o.0, (o.1, ended_le 144 _ (text w) _ 82 (whole w) (omega arith)))
 
 pub last-line-spec : {M : Type 1} → statement M
 last-line-spec =

@@ -4,9 +4,9 @@ use mathlib.Core.List.{◌++◌}
 use native.Mathlib.Omega.{arith}
 use Rattle.text.specs.Text.{ascii, decimal}
 use Rattle.text.specs.Placing.{PutIfRoom}
-use Rattle.text.proofs.Answers.{owed-put}
-use Rattle.text.proofs.Puts.{put-if-room-append}
-use Rattle.session.specs.Format.{fileLine, orderLine, countLine, header}
+use Rattle.text.proofs.Answers.{owed_put}
+use Rattle.text.proofs.Puts.{put_if_room_append}
+use Rattle.session.specs.Format.{file_line, order_line, count_line, header}
 use Rattle.session.proofs.header.write_header.Statement.{statement}
 use Rattle.session.proofs.header.write_header.Tie as tie
 
@@ -32,15 +32,15 @@ module _ (c : tie.After-end-of3) where
 
   -- what they put
   whole : PutIfRoom begun.args.out.now 0 (header begun.args.n) last.place2.last.1.0 c.end-of3.result
-  unfolding header countLine
+  unfolding header count_line
   whole =
       let out = begun.args.out.now in
-      let lines = fileLine ++ orderLine in
+      let lines = file_line ++ order_line in
       let count = ascii "frames=" ++ decimal begun.args.n in
-      let p = owed-put lines 0 out _ _ _ start.place.ensures first.end_of_lem.ensures in
-      let q = owed-put count _ _ _ _ _ middle.number.ensures second.end-of2.ensures in
-      let r = owed-put (ascii "\n") _ _ _ _ _ last.place2.ensures c.end-of3.ensures in
-      put-if-room-append out _ _ 0 _ _ (lines ++ count) (ascii "\n") (put-if-room-append out _ _ 0 _ _ lines count p q) r
+      let p = owed_put lines 0 out _ _ _ start.place.ensures first.end_of_lem.ensures in
+      let q = owed_put count _ _ _ _ _ middle.number.ensures second.end-of2.ensures in
+      let r = owed_put (ascii "\n") _ _ _ _ _ last.place2.ensures c.end-of3.ensures in
+      put_if_room_append out _ _ 0 _ _ (lines ++ count) (ascii "\n") (put_if_room_append out _ _ 0 _ _ lines count p q) r
 
 slice-aggregate-place : tie.Need-slice-aggregate-place
 slice-aggregate-place c = omega arith

@@ -6,34 +6,34 @@ use native.Mathlib.Omega.{arith}
 use lib.ListN.{length, take, get_or}
 use lib.Seq.{take-length, length-take-le}
 use Rattle.text.specs.Placing.{Put}
-use Rattle.text.proofs.Puts.{put-none, put-append}
-use Rattle.session.specs.Format.{hexText, hexPair}
-use Rattle.session.proofs.Texts.{hex-more, hex-length}
+use Rattle.text.proofs.Puts.{put_none, put_append}
+use Rattle.session.specs.Format.{hex_text, hex_pair}
+use Rattle.session.proofs.Texts.{hex_more, hex_length}
 use Rattle.session.proofs.lines.write_digits.Statement.{statement}
 use Rattle.session.proofs.lines.write_digits.Tie as tie
 
 abbrev invariant-loop : tie.invariant-loop
 invariant-loop frame out₀ at end₀ i₀ out end i =
-    (length frame ≡ 7) × (i ≤ 7) × (at + 14 ≤ length out₀) × (length out ≡ length out₀) × Put out₀ at (hexText (take i frame)) out end
+    (length frame ≡ 7) × (i ≤ 7) × (at + 14 ≤ length out₀) × (length out ≡ length out₀) × Put out₀ at (hex_text (take i frame)) out end
 
 abbrev decreases-loop : tie.decreases-loop
 decreases-loop frame out₀ at end₀ i₀ out end i = 7 - i
 
 -- i bytes have 2 i digits
-size : (frame : List ℕ) (i : ℕ) → i ≤ length frame → length (hexText (take i frame)) ≡ 2 * i
-size frame i h = omega (arith, hex-length (take i frame), length-take-le i frame h)
+size : (frame : List ℕ) (i : ℕ) → i ≤ length frame → length (hex_text (take i frame)) ≡ 2 * i
+size frame i h = omega (arith, hex_length (take i frame), length-take-le i frame h)
 
 loop-holds : tie.Need-loop-init invariant-loop decreases-loop
-unfolding hexText
+unfolding hex_text
 loop-holds c =
     let s = c.before.before in
-    (s.requires.0, omega arith, s.requires.1, refl, put-none s.args.out.now s.args.at)
+    (s.requires.0, omega arith, s.requires.1, refl, put_none s.args.out.now s.args.at)
 
 shared-slice-read-write-pair : tie.Need-shared-slice-read-write-pair invariant-loop decreases-loop
 shared-slice-read-write-pair c = omega arith
 
-write-pair-requires : tie.Need-write-pair-requires invariant-loop decreases-loop
-write-pair-requires c κs =
+write_pair_requires : tie.Need-write-pair-requires invariant-loop decreases-loop
+write_pair_requires c κs =
     let turn = c.before.before in
     let L = turn.before.loop in
     let frame = turn.before.before.before.before.args.frame.now in
@@ -53,8 +53,8 @@ loop-again c =
     let a = turn.before.before.before.before.args in
     let frame = a.frame.now in
     let h : L.i < length frame = omega arith in
-    let p = put-append a.out.now L.out _ a.at L.end _ (hexText (take L.i frame)) (hexPair (get_or frame L.i 0)) (omega arith) L.invariant.4 put.write-pair.ensures in
-    (L.invariant.0, omega arith, L.invariant.2, put.write-pair.auto.1.0 ∙ L.invariant.3, rw (hex-more frame L.i h) p)
+    let p = put_append a.out.now L.out _ a.at L.end _ (hex_text (take L.i frame)) (hex_pair (get_or frame L.i 0)) (omega arith) L.invariant.4 put.write-pair.ensures in
+    (L.invariant.0, omega arith, L.invariant.2, put.write-pair.auto.1.0 ∙ L.invariant.3, rw (hex_more frame L.i h) p)
 
 same_length : tie.Need-same-length invariant-loop decreases-loop
 same_length c = c.before.loop.invariant.3
@@ -69,4 +69,4 @@ returns c =
 pub write-digits-spec : {M : Type 1} → statement M
 write-digits-spec =
     tie.close
-    (tie.spec invariant-loop decreases-loop loop-holds shared-slice-read-write-pair write-pair-requires add-i loop-less loop-again same_length returns)
+    (tie.spec invariant-loop decreases-loop loop-holds shared-slice-read-write-pair write_pair_requires add-i loop-less loop-again same_length returns)

@@ -6,9 +6,9 @@ use native.Mathlib.Omega.{arith}
 use lib.ListN.{length, set, length-set}
 use Rattle.text.specs.Text.{ascii}
 use Rattle.text.specs.Placing.{Put}
-use Rattle.text.proofs.Puts.{byte_put, pair_put, put-append}
-use Rattle.session.specs.Format.{hexText, frameLine}
-use Rattle.session.proofs.Texts.{hex-length}
+use Rattle.text.proofs.Puts.{byte_put, pair_put, put_append}
+use Rattle.session.specs.Format.{hex_text, frame_line}
+use Rattle.session.proofs.Texts.{hex_length}
 use Rattle.session.proofs.lines.write_line.Statement.{statement}
 use Rattle.session.proofs.lines.write_line.Tie as tie
 
@@ -16,14 +16,14 @@ use Rattle.session.proofs.lines.write_line.Tie as tie
 abbrev begun : List ℕ → ℕ → List ℕ
 begun out at = set (set out at 102) (at + 1) 61
 
-begun-length : (out : List ℕ) (at : ℕ) → length (begun out at) ≡ length out
-begun-length out at = length-set (set out at 102) (at + 1) 61 ∙ length-set out at 102
+begun_length : (out : List ℕ) (at : ℕ) → length (begun out at) ≡ length out
+begun_length out at = length-set (set out at 102) (at + 1) 61 ∙ length-set out at 102
 
 -- the line so far, up to its end
-so_far : (frame out after : List ℕ) (at end : ℕ) → at + 2 ≤ length out → Put (begun out at) (at + 2) (hexText frame) after end
-    → Put out at (102 ∷ 61 ∷ hexText frame) after end
+so_far : (frame out after : List ℕ) (at end : ℕ) → at + 2 ≤ length out → Put (begun out at) (at + 2) (hex_text frame) after end
+    → Put out at (102 ∷ 61 ∷ hex_text frame) after end
 so_far frame out after at end h p =
-    put-append out (begun out at) after at (at + 2) end (102 ∷ 61 ∷ []) (hexText frame) (omega arith) (pair_put out at 102 61 (omega arith)) p
+    put_append out (begun out at) after at (at + 2) end (102 ∷ 61 ∷ []) (hex_text frame) (omega arith) (pair_put out at 102 61 (omega arith)) p
 
 slice-write-out : tie.Need-slice-write-out
 slice-write-out c = omega arith
@@ -40,7 +40,7 @@ add-write-digits c = omega arith
 write-digits-requires : tie.Need-write-digits-requires
 write-digits-requires c κs =
     let s = c.before.before.before in
-    (s.requires.0, omega (arith, s.requires.1, begun-length s.args.out.now s.args.at))
+    (s.requires.0, omega (arith, s.requires.1, begun_length s.args.out.now s.args.at))
 
 -- where the digits end, and the length of the output there
 module _ (c : tie.After-slice-known2) where
@@ -51,10 +51,10 @@ module _ (c : tie.After-slice-known2) where
   start = wrote.before.before.before.before
 
   kept : length wrote.write-digits.last.1.0 ≡ length start.args.out.now
-  kept = wrote.write-digits.kept.1.0 ∙ begun-length start.args.out.now start.args.at
+  kept = wrote.write-digits.kept.1.0 ∙ begun_length start.args.out.now start.args.at
 
   room : wrote.write-digits.result + 1 ≤ length wrote.write-digits.last.1.0
-  room = omega (arith, wrote.write-digits.ensures.0, hex-length start.args.frame.now, kept, start.pre)
+  room = omega (arith, wrote.write-digits.ensures.0, hex_length start.args.frame.now, kept, start.pre)
 
 slice-write-out-3 : tie.Need-slice-write-out-3
 slice-write-out-3 c = omega (arith, room c)
@@ -66,13 +66,13 @@ same_length : tie.Need-same-length
 same_length c = length-set (wrote c).write-digits.new.1.0 (wrote c).write-digits.result 10 ∙ kept c
 
 returns : tie.Need-returns
-unfolding frameLine
+unfolding frame_line
 returns c =
     let a = (start c).args in
     let frame = a.frame.now in
     let d = (wrote c).write-digits in
     let p = so_far frame a.out.now d.last.1.0 a.at d.result (omega (arith, (start c).requires)) d.ensures in
-    put-append a.out.now d.last.1.0 _ a.at d.result _ (102 ∷ 61 ∷ hexText frame) (ascii "\n") (omega (arith, (start c).requires)) p
+    put_append a.out.now d.last.1.0 _ a.at d.result _ (102 ∷ 61 ∷ hex_text frame) (ascii "\n") (omega (arith, (start c).requires)) p
     (byte_put d.last.1.0 d.result 10 (omega (arith, room c)))
 
 pub write-line-spec : {M : Type 1} → statement M

@@ -6,10 +6,10 @@ use Prim.Native.Nat.{ℕ, ◌/◌, ◌≤◌}
 use native.Mathlib.Omega.{arith}
 use lib.ListN.{length}
 use borrow.Author.Tests.{not-true, not-false}
-use Rattle.session.specs.Writing.{isWhole, text_of}
+use Rattle.session.specs.Writing.{is_whole, text_of}
 use Rattle.session.proofs.Frames.{whole_parts}
-use Rattle.session.proofs.Texts.{text-length, text-le}
-use Rattle.session.proofs.Answers.{part-owes, short-owes, padding-owes, text-owes}
+use Rattle.session.proofs.Texts.{text_length, text_le}
+use Rattle.session.proofs.Answers.{part_owes, short_owes, padding_owes, text_owes}
 use Rattle.session.proofs.writing.write.Statement.{statement}
 use Rattle.session.proofs.writing.write.Tie as tie
 
@@ -20,7 +20,7 @@ returns : tie.Need-returns
 returns c =
     let t = c.before in
     let a = t.before.before.before.args in
-    part-owes a.frames.now a.out.now (sym t.is_whole.ensures ∙ not-true t.is_whole.result c.if1.true)
+    part_owes a.frames.now a.out.now (sym t.is_whole.ensures ∙ not-true t.is_whole.result c.if1.true)
 
 -- the frames are whole, and few
 module _ (c : tie.Else1) where
@@ -30,7 +30,7 @@ module _ (c : tie.Else1) where
   abbrev frames : List ℕ
   frames = start.args.frames.now
 
-  whole : isWhole frames ≡ true
+  whole : is_whole frames ≡ true
   whole = sym c.before.is_whole.ensures ∙ not-false c.before.is_whole.result c.if1.false
 
   few : length frames / 7 ≤ 2000
@@ -39,7 +39,7 @@ module _ (c : tie.Else1) where
 -- there is room for the text
 module _ (c : tie.Else2) where
   room : length (text_of (frames c.before.before)) ≤ length (start c.before.before).args.out.now
-  room = omega (arith, c.if2.false, c.before.header-size.ensures, text-length (frames c.before.before))
+  room = omega (arith, c.if2.false, c.before.header-size.ensures, text_length (frames c.before.before))
 
 header-size-requires : tie.Need-header-size-requires
 header-size-requires c κs = omega (arith, few c)
@@ -50,12 +50,12 @@ mul-if2 c = record { fits = omega (arith, few c.before) }
 add-if2 : tie.Need-overflow-add-if2
 add-if2 c =
     let f = frames c.before in
-    record { fits = omega (arith, c.header-size.ensures, text-length f, text-le f (few c.before)) }
+    record { fits = omega (arith, c.header-size.ensures, text_length f, text_le f (few c.before)) }
 
-returns-2 : tie.Need-returns-2
-returns-2 c =
+returns_2 : tie.Need-returns-2
+returns_2 c =
     let e = c.before.before in
-    short-owes (frames e) (start e).args.out.now (whole e) (omega (arith, c.if2.true, c.before.header-size.ensures, text-length (frames e)))
+    short_owes (frames e) (start e).args.out.now (whole e) (omega (arith, c.if2.true, c.before.header-size.ensures, text_length (frames e)))
 
 has-padding-requires : tie.Need-has-padding-requires
 has-padding-requires c κs = tt
@@ -64,7 +64,7 @@ returns-3 : tie.Need-returns-3
 returns-3 c =
     let t = c.before in
     let e = t.before.before.before in
-    padding-owes (frames e) (start e).args.out.now (whole e) (room t.before) (sym t.has-padding.ensures ∙ c.if3.true)
+    padding_owes (frames e) (start e).args.out.now (whole e) (room t.before) (sym t.has-padding.ensures ∙ c.if3.true)
 
 write-text-requires : tie.Need-write-text-requires
 write-text-requires c κs = room c.before.before.before
@@ -78,7 +78,7 @@ returns-4 c =
     let p = put.before.before in
     let t = p.before in
     let e = t.before.before.before in
-    text-owes (frames e) (start e).args.out.now (whole e) (room t.before) (sym t.has-padding.ensures ∙ p.if3.false) _ _ put.write-text.ensures
+    text_owes (frames e) (start e).args.out.now (whole e) (room t.before) (sym t.has-padding.ensures ∙ p.if3.false) _ _ put.write-text.ensures
 
 pub write_spec : {M : Type 1} → statement M
 write_spec =
@@ -89,7 +89,7 @@ write_spec =
     header-size-requires
     mul-if2
     add-if2
-    returns-2
+    returns_2
     has-padding-requires
     returns-3
     write-text-requires

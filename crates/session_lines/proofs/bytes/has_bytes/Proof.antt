@@ -7,7 +7,7 @@ use native.Mathlib.Omega.{arith}
 use lib.Dec.{eqb}
 use lib.ListN.{length, drop, get_or, length-drop}
 use Rattle.session_lines.specs.Scans.{begins}
-use Rattle.session_lines.proofs.Scans.{begins-short, begins-more, begins-out}
+use Rattle.session_lines.proofs.Scans.{begins_short, begins_more, begins_out}
 use Rattle.session_lines.proofs.bytes.has_bytes.Statement.{statement}
 use Rattle.session_lines.proofs.bytes.has_bytes.Tie as tie
 
@@ -21,15 +21,15 @@ decreases-loop text at bytes same₀ i₀ i-end same i = i-end - i
 returns : tie.Need-returns invariant-loop decreases-loop
 returns c =
     let a = c.before.args in
-    sym (begins-short a.bytes.now (drop a.at a.text.now) (omega (arith, length-drop a.at a.text.now)))
+    sym (begins_short a.bytes.now (drop a.at a.text.now) (omega (arith, length-drop a.at a.text.now)))
 
 sub-if2 : tie.Need-overflow-sub-if2 invariant-loop decreases-loop
 sub-if2 c = omega arith
 
-returns-2 : tie.Need-returns-2 invariant-loop decreases-loop
-returns-2 c =
+returns_2 : tie.Need-returns-2 invariant-loop decreases-loop
+returns_2 c =
     let a = c.before.before.args in
-    sym (begins-short a.bytes.now (drop a.at a.text.now) (omega (arith, length-drop a.at a.text.now)))
+    sym (begins_short a.bytes.now (drop a.at a.text.now) (omega (arith, length-drop a.at a.text.now)))
 
 loop-holds : tie.Need-loop-init invariant-loop decreases-loop
 loop-holds c =
@@ -58,7 +58,7 @@ loop-again c =
     let a = turn.before.before.before.before.args in
     let w = a.bytes.now in
     let text = a.text.now in
-    let more = begins-more w text a.at L.i (omega arith) L.invariant.2 in
+    let more = begins_more w text a.at L.i (omega arith) L.invariant.2 in
     let e = eqb (get_or w L.i 0) (get_or text (a.at + L.i) 0) in
     let rest = begins (drop (L.i + 1) w) (drop (a.at + (L.i + 1)) text) in
     (L.invariant.0, omega arith, L.invariant.2, L.invariant.3 ∙ ap (λ (b : Bool). L.same && b) more ∙ sym (and_assoc L.same e rest))
@@ -68,7 +68,7 @@ returns-3 c =
     let L = c.before.loop in
     let a = c.before.before.before.before.args in
     let w = a.bytes.now in
-    sym (L.invariant.3 ∙ ap (λ (b : Bool). L.same && b) (begins-out w (drop (a.at + L.i) a.text.now) L.i (omega arith)) ∙ and-true L.same)
+    sym (L.invariant.3 ∙ ap (λ (b : Bool). L.same && b) (begins_out w (drop (a.at + L.i) a.text.now) L.i (omega arith)) ∙ and-true L.same)
 
 pub has-bytes-spec : {M : Type 1} → statement M
 has-bytes-spec =
@@ -78,7 +78,7 @@ has-bytes-spec =
     decreases-loop
     returns
     sub-if2
-    returns-2
+    returns_2
     loop-holds
     shared-slice-read-same
     add_same

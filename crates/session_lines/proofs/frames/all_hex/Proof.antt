@@ -4,13 +4,13 @@ use mathlib.Core.Bool.{Bool, ◌&&◌, and_assoc, and-true}
 use Prim.Native.Nat.{◌+◌, ◌-◌, ◌≤◌}
 use native.Mathlib.Omega.{arith}
 use lib.ListN.{length, drop}
-use Rattle.session_lines.specs.Lines.{allHex}
-use Rattle.session_lines.proofs.HexDigits.{hex-more, hex-out}
+use Rattle.session_lines.specs.Lines.{all_hex}
+use Rattle.session_lines.proofs.HexDigits.{hex_more, hex_out}
 use Rattle.session_lines.proofs.frames.all_hex.Statement.{statement}
 use Rattle.session_lines.proofs.frames.all_hex.Tie as tie
 
 abbrev invariant-loop : tie.invariant-loop
-invariant-loop digits all₀ i₀ i-end all i = (i-end ≡ length digits) × (i ≤ i-end) × (allHex digits ≡ all && allHex (drop i digits))
+invariant-loop digits all₀ i₀ i-end all i = (i-end ≡ length digits) × (i ≤ i-end) × (all_hex digits ≡ all && all_hex (drop i digits))
 
 abbrev decreases-loop : tie.decreases-loop
 decreases-loop digits all₀ i₀ i-end all i = i-end - i
@@ -35,15 +35,15 @@ loop-again c =
     let turn = c.before.before in
     let L = turn.before.loop in
     let s = turn.before.before.before.args.digits.now in
-    let rest = allHex (drop (L.i + 1) s) in
-    let more = hex-more s L.i (omega arith) ∙ ap (λ (b : Bool). b && rest) (sym c.is-hex.ensures) in
+    let rest = all_hex (drop (L.i + 1) s) in
+    let more = hex_more s L.i (omega arith) ∙ ap (λ (b : Bool). b && rest) (sym c.is-hex.ensures) in
     (L.invariant.0, omega arith, L.invariant.2 ∙ ap (λ (b : Bool). L.all && b) more ∙ sym (and_assoc L.all c.is-hex.result rest))
 
 returns : tie.Need-returns invariant-loop decreases-loop
 returns c =
     let L = c.before.loop in
     let s = c.before.before.before.args.digits.now in
-    sym (L.invariant.2 ∙ ap (λ (b : Bool). L.all && b) (hex-out s L.i (omega arith)) ∙ and-true L.all)
+    sym (L.invariant.2 ∙ ap (λ (b : Bool). L.all && b) (hex_out s L.i (omega arith)) ∙ and-true L.all)
 
 pub all-hex-spec : {M : Type 1} → statement M
 all-hex-spec =

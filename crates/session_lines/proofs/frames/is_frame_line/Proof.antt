@@ -8,8 +8,8 @@ use lib.Dec.{eqb}
 use lib.ListN.{length, take, drop, get_or, length-drop}
 use lib.Seq.{drop-drop, get_or-drop}
 use borrow.Author.Tests.{not-true, not-false}
-use Rattle.session_lines.specs.Lines.{line_at, allHex, isFrameLine}
-use Rattle.session_lines.proofs.FrameScans.{scan-is, scan-out}
+use Rattle.session_lines.specs.Lines.{line_at, all_hex, is_frame_line}
+use Rattle.session_lines.proofs.FrameScans.{scan_is, scan_out}
 use Rattle.session_lines.proofs.frames.is_frame_line.Statement.{statement}
 use Rattle.session_lines.proofs.frames.is_frame_line.Tie as tie
 
@@ -24,24 +24,24 @@ others text at = eqb (get_or text at 0) 102 && eqb (get_or text (at + 1) 0) 61 &
 
 -- the test at an offset
 scanned : (text : List ℕ) (at : ℕ) → at + 17 ≤ length text
-    → isFrameLine (line_at text at) ≡ allHex (take (at + 16 - (at + 2)) (drop (at + 2) text)) && others text at
+    → is_frame_line (line_at text at) ≡ all_hex (take (at + 16 - (at + 2)) (drop (at + 2) text)) && others text at
 scanned text at h =
     let t = drop at text in
     let z : at + 0 ≡ at = omega arith in
     let first : get_or t 0 0 ≡ get_or text at 0 = get_or-drop at text 0 0 ∙ ap (λ (n : ℕ). get_or text n 0) z in
     let second = get_or-drop at text 1 0 in
     let last = get_or-drop at text 16 0 in
-    scan-is t (omega (arith, length-drop at text))
-    ∙ (λ i. allHex (sym (digits text at) i) && (eqb (first i) 102 && eqb (second i) 61 && eqb (last i) 10))
+    scan_is t (omega (arith, length-drop at text))
+    ∙ (λ i. all_hex (sym (digits text at) i) && (eqb (first i) 102 && eqb (second i) 61 && eqb (last i) 10))
 
 returns : tie.Need-returns
-returns c = let a = c.before.before.args in sym (scan-out (drop a.at a.text.now) (omega (arith, length-drop a.at a.text.now)))
+returns c = let a = c.before.before.args in sym (scan_out (drop a.at a.text.now) (omega (arith, length-drop a.at a.text.now)))
 
 sub-if2 : tie.Need-overflow-sub-if2
 sub-if2 c = omega arith
 
-returns-2 : tie.Need-returns-2
-returns-2 c = let a = c.before.before.before.args in sym (scan-out (drop a.at a.text.now) (omega (arith, length-drop a.at a.text.now)))
+returns_2 : tie.Need-returns-2
+returns_2 c = let a = c.before.before.before.args in sym (scan_out (drop a.at a.text.now) (omega (arith, length-drop a.at a.text.now)))
 
 add-all-hex : tie.Need-overflow-add-all-hex
 add-all-hex c = omega arith
@@ -66,7 +66,7 @@ module _ (c : tie.After-all-hex) where
   abbrev start : tie.Start
   start = c.before.before.before.before.before
 
-  by_digits : (b : Bool) → c.all-hex.result ≡ b → isFrameLine (line_at start.args.text.now start.args.at) ≡ b && others start.args.text.now start.args.at
+  by_digits : (b : Bool) → c.all-hex.result ≡ b → is_frame_line (line_at start.args.text.now start.args.at) ≡ b && others start.args.text.now start.args.at
   by_digits b e =
       let text = start.args.text.now in
       scanned text start.args.at (omega arith) ∙ ap (λ (x : Bool). x && others text start.args.at) (sym c.all-hex.ensures ∙ e)
@@ -100,7 +100,7 @@ is-frame-line-spec =
     (tie.spec
     returns
     sub-if2
-    returns-2
+    returns_2
     add-all-hex
     add-all-hex-2
     sub-all-hex

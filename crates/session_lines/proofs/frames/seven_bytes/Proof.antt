@@ -5,29 +5,29 @@ use mathlib.Core.List.{List, ◌++◌, append-nil}
 use Prim.Native.Nat.{ℕ, ◌+◌, ◌*◌, ◌-◌, ◌≤◌, ◌<◌}
 use native.Mathlib.Omega.{arith}
 use lib.ListN.{length, take, drop, get_or, set, replicate, length-replicate}
-use Rattle.bits.proofs.Cut.{cut-length, cut_at}
-use Rattle.bits.proofs.Front.{front-more, front-all}
-use Rattle.session_lines.specs.Lines.{allHex, hexBytes}
+use Rattle.bits.proofs.Cut.{cut_length, cut_at}
+use Rattle.bits.proofs.Front.{front_more, front_all}
+use Rattle.session_lines.specs.Lines.{all_hex, hex_bytes}
 use Rattle.session_lines.proofs.HexDigits.{hex_digit_at}
-use Rattle.session_lines.proofs.HexBytes.{byteIn, hex-at}
+use Rattle.session_lines.proofs.HexBytes.{byte_in, hex_at}
 use Rattle.session_lines.proofs.frames.seven_bytes.Statement.{statement}
 use Rattle.session_lines.proofs.frames.seven_bytes.Tie as tie
 
 abbrev invariant-loop : tie.invariant-loop
 invariant-loop digits frame₀ i₀ frame i =
-    (length digits ≡ 14) × (allHex digits ≡ true) × (i ≤ 7) × (frame ≡ take i (hexBytes digits) ++ drop i (replicate 7 0))
+    (length digits ≡ 14) × (all_hex digits ≡ true) × (i ≤ 7) × (frame ≡ take i (hex_bytes digits) ++ drop i (replicate 7 0))
 
 abbrev decreases-loop : tie.decreases-loop
 decreases-loop digits frame₀ i₀ frame i = 7 - i
 
 module _ (digits : List ℕ) (h : length digits ≡ 14) where
   -- seven bytes
-  size : length (hexBytes digits) ≡ 7
-  size = ap length (hex-at digits 7 h) ∙ cut-length (byteIn digits) 0 7
+  size : length (hex_bytes digits) ≡ 7
+  size = ap length (hex_at digits 7 h) ∙ cut_length (byte_in digits) 0 7
 
   -- byte i is that of its two digits
-  byte-is : (i : ℕ) → i < 7 → byteIn digits i ≡ get_or (hexBytes digits) i 0
-  byte-is i l = sym (ap (λ (l : List ℕ). get_or l i 0) (hex-at digits 7 h) ∙ cut_at 0 (byteIn digits) 0 7 i l ∙ ap (byteIn digits) (omega arith))
+  byte_is : (i : ℕ) → i < 7 → byte_in digits i ≡ get_or (hex_bytes digits) i 0
+  byte_is i l = sym (ap (λ (l : List ℕ). get_or l i 0) (hex_at digits 7 h) ∙ cut_at 0 (byte_in digits) 0 7 i l ∙ ap (byte_in digits) (omega arith))
 
 loop-holds : tie.Need-loop-init invariant-loop decreases-loop
 loop-holds c = let s = c.before in (s.requires.0, s.requires.1, omega arith, refl)
@@ -69,15 +69,15 @@ loop-again c =
     let L = turn.before.loop in
     let ds = turn.before.before.before.args.digits.now in
     let h : L.i < 7 = turn.loop-test.true in
-    let stored = c.hex-byte.ensures ∙ byte-is ds L.invariant.0 L.i h in
-    let more = front-more (hexBytes ds) (replicate 7 0) L.i 0 (omega (arith, length-replicate {A = ℕ} 7 0)) (omega (arith, size ds L.invariant.0)) in
+    let stored = c.hex-byte.ensures ∙ byte_is ds L.invariant.0 L.i h in
+    let more = front_more (hex_bytes ds) (replicate 7 0) L.i 0 (omega (arith, length-replicate {A = ℕ} 7 0)) (omega (arith, size ds L.invariant.0)) in
     (L.invariant.0, L.invariant.1, omega arith, (λ i. set (L.invariant.3 i) L.i (stored i)) ∙ more)
 
 returns : tie.Need-returns invariant-loop decreases-loop
 returns c =
     let L = c.before.loop in
     let ds = c.before.before.before.args.digits.now in
-    front-all (hexBytes ds) (replicate 7 0) L.frame L.i 7 L.invariant.3 (omega (arith, c.loop-test.false)) (omega (arith, size ds L.invariant.0)) ∙ append-nil (hexBytes ds)
+    front_all (hex_bytes ds) (replicate 7 0) L.frame L.i 7 L.invariant.3 (omega (arith, c.loop-test.false)) (omega (arith, size ds L.invariant.0)) ∙ append-nil (hex_bytes ds)
 
 pub seven-bytes-spec : {M : Type 1} → statement M
 seven-bytes-spec =

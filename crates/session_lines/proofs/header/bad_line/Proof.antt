@@ -6,18 +6,18 @@ use Prim.Native.Nat.{ℕ}
 use native.Mathlib.Omega.{arith}
 use lib.ListN.{drop}
 use borrow.Author.Tests.{not-true, not-false}
-use Rattle.session.specs.Format.{fileLine, orderLine}
-use Rattle.session_lines.specs.Lines.{isCountLine}
+use Rattle.session.specs.Format.{file_line, order_line}
+use Rattle.session_lines.specs.Lines.{is_count_line}
 use Rattle.session_lines.specs.Scans.{begins}
-use Rattle.session_lines.specs.Headers.{thirdLine, badHeaderLine}
-use Rattle.session_lines.proofs.HeaderLines.{first_of, bad-is}
+use Rattle.session_lines.specs.Headers.{third_line, bad_header_line}
+use Rattle.session_lines.proofs.HeaderLines.{first_of, bad_is}
 use Rattle.session_lines.proofs.header.bad_line.Statement.{statement}
 use Rattle.session_lines.proofs.header.bad_line.Tie as tie
 
 -- the first bad line by the three tests
-by_tests : (text : List ℕ) (file order count : Bool) → file ≡ begins fileLine text → order ≡ begins orderLine (drop 10 text)
-    → count ≡ isCountLine (thirdLine text) → first_of file order count ≡ badHeaderLine text
-by_tests text file order count f o c = (λ i. first_of (f i) (o i) (c i)) ∙ sym (bad-is text)
+by_tests : (text : List ℕ) (file order count : Bool) → file ≡ begins file_line text → order ≡ begins order_line (drop 10 text)
+    → count ≡ is_count_line (third_line text) → first_of file order count ≡ bad_header_line text
+by_tests text file order count f o c = (λ i. first_of (f i) (o i) (c i)) ∙ sym (bad_is text)
 
 slice-aggregate-has-bytes : tie.Need-slice-aggregate-has-bytes
 slice-aggregate-has-bytes c = omega arith
@@ -35,8 +35,8 @@ module _ (c : tie.Else1) where
   abbrev start : tie.Start
   start = c.before.before.before.before
 
-  has-file : true ≡ begins fileLine start.args.text.now
-  has-file = sym (not-false c.before.has-bytes.result c.if1.false) ∙ c.before.has-bytes.ensures
+  has_file : true ≡ begins file_line start.args.text.now
+  has_file = sym (not-false c.before.has-bytes.result c.if1.false) ∙ c.before.has-bytes.ensures
 
 slice-aggregate-has-bytes-2 : tie.Need-slice-aggregate-has-bytes-2
 slice-aggregate-has-bytes-2 c = omega arith
@@ -44,21 +44,21 @@ slice-aggregate-has-bytes-2 c = omega arith
 has-bytes-requires-2 : tie.Need-has-bytes-requires-2
 has-bytes-requires-2 c κs = omega arith
 
-returns-2 : tie.Need-returns-2
-returns-2 c =
+returns_2 : tie.Need-returns-2
+returns_2 c =
     let t = c.before in
-    by_tests (start t.before.before).args.text.now true false _ (has-file t.before.before) (sym (not-true t.has-bytes2.result c.if2.true) ∙ t.has-bytes2.ensures) refl
+    by_tests (start t.before.before).args.text.now true false _ (has_file t.before.before) (sym (not-true t.has-bytes2.result c.if2.true) ∙ t.has-bytes2.ensures) refl
 
 is-count-line-requires : tie.Need-is-count-line-requires
 is-count-line-requires c κs = (start c.before.before.before).pre
 
 -- the second stands too
 third : (c : tie.After-is-count-line) (b : Bool) → c.is-count-line.result ≡ b
-    → first_of true true b ≡ badHeaderLine (start c.before.before.before.before).args.text.now
+    → first_of true true b ≡ bad_header_line (start c.before.before.before.before).args.text.now
 third c b r =
     let e = c.before in
     let f = e.before.before.before in
-    by_tests (start f).args.text.now true true b (has-file f) (sym (not-false e.before.has-bytes2.result e.if2.false) ∙ e.before.has-bytes2.ensures)
+    by_tests (start f).args.text.now true true b (has_file f) (sym (not-false e.before.has-bytes2.result e.if2.false) ∙ e.before.has-bytes2.ensures)
     (sym r ∙ c.is-count-line.ensures)
 
 returns-3 : tie.Need-returns-3
@@ -76,7 +76,7 @@ bad-line-spec =
     returns
     slice-aggregate-has-bytes-2
     has-bytes-requires-2
-    returns-2
+    returns_2
     is-count-line-requires
     returns-3
     returns-4)

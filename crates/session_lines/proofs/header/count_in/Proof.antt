@@ -3,9 +3,9 @@ use mathlib.Core.Path.{◌≡◌, refl, ap, ◌∙◌}
 use Prim.Native.Nat.{ℕ, ◌+◌, ◌*◌, ◌-◌, ◌≤◌, ◌<◌}
 use native.Mathlib.Omega.{arith}
 use lib.ListN.{take, drop, get_or}
-use Rattle.session_lines.specs.Scans.{digitsIn}
-use Rattle.session_lines.proofs.Values.{value-le, value-fits}
-use Rattle.session_lines.proofs.Digits.{digits-out, digits-none}
+use Rattle.session_lines.specs.Scans.{digits_in}
+use Rattle.session_lines.proofs.Values.{value_le, value_fits}
+use Rattle.session_lines.proofs.Digits.{digits_out, digits_none}
 use Rattle.session_lines.proofs.Turns.{Left, none_left, stopped, taken}
 use Rattle.session_lines.proofs.header.count_in.Statement.{statement}
 use Rattle.session_lines.proofs.header.count_in.Tie as tie
@@ -24,13 +24,13 @@ returns c =
     let L = c.before.before.loop in
     let text = c.before.before.before.args.text.now in
     let k = 33 - L.i in
-    (none_left text L.value L.i k L.invariant.3 (digits-out text L.i k c.if1.true), L.invariant.1)
+    (none_left text L.value L.i k L.invariant.3 (digits_out text L.i k c.if1.true), L.invariant.1)
 
 shared-slice-read-c : tie.Need-shared-slice-read-c invariant-loop decreases-loop
 shared-slice-read-c c = omega arith
 
-returns-2 : tie.Need-returns-2 invariant-loop decreases-loop
-returns-2 c =
+returns_2 : tie.Need-returns-2 invariant-loop decreases-loop
+returns_2 c =
     let turn = c.before.before.before in
     let L = turn.before.loop in
     (stopped turn.before.before.args.text.now L.value L.i turn.loop-test.true (omega (arith, c.before.before.if1.false)) (λ low high. omega arith) L.invariant.3, L.invariant.1)
@@ -66,7 +66,7 @@ loop-again c =
     let text = turn.before.before.args.text.now in
     let value = 10 * L.value + (get_or text L.i 0 - 48) in
     let e = taken text L.value L.i turn.loop-test.true (omega (arith, c.before.before.before.if1.false)) c.before.if2.false c.if3.false L.invariant.3 in
-    (omega arith, omega arith, omega (arith, e.0, value-fits (drop 29 text), value-le value (take (33 - (L.i + 1)) (drop (L.i + 1) text))), e)
+    (omega arith, omega arith, omega (arith, e.0, value_fits (drop 29 text), value_le value (take (33 - (L.i + 1)) (drop (L.i + 1) text))), e)
 
 returns-4 : tie.Need-returns-4 invariant-loop decreases-loop
 returns-4 c =
@@ -74,7 +74,7 @@ returns-4 c =
     let text = c.before.before.args.text.now in
     let t = drop L.i text in
     let z : 33 - L.i ≡ 0 = omega (arith, c.loop-test.false) in
-    let all = none_left text L.value L.i (33 - L.i) L.invariant.3 (ap (λ (n : ℕ). digitsIn (take n t)) z ∙ digits-none t) in
+    let all = none_left text L.value L.i (33 - L.i) L.invariant.3 (ap (λ (n : ℕ). digits_in (take n t)) z ∙ digits_none t) in
     ((all.0, omega (arith, all.1, c.loop-test.false, L.invariant.1)), omega arith)
 
 pub count-in-spec : {M : Type 1} → statement M
@@ -86,7 +86,7 @@ count-in-spec =
     loop-holds
     returns
     shared-slice-read-c
-    returns-2
+    returns_2
     returns-3
     mul-value
     cast-value

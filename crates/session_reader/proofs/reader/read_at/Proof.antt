@@ -106,8 +106,8 @@ module _ {M : Type 1} {𝓤 : Ura M} (𝓛 : Logic 𝓤) (mem : Memory → SProp
   abbrev HL : LL.Laws HD
   HL = R'.the_laws (named_lft 1 0 tt (κ, tt))
 
-  abbrev stepVal : Step → Val
-  stepVal r = LL.val S.the_type S'.the_laws r
+  abbrev step_val : Step → Val
+  step_val r = LL.val S.the_type S'.the_laws r
 
   abbrev Post : Val → SProp 𝓤
   Post = (walk_of 𝓛 at-text.ended stayed (at-text.clauses 𝓛 mem run)).post (((κ, tt), (q, tt), tt, (s, (n, tt)), at), tt)
@@ -134,11 +134,11 @@ module _ {M : Type 1} {𝓤 : Ura M} (𝓛 : Logic 𝓤) (mem : Memory → SProp
   said : (h : Handed) → ent 𝓤 (ensured 𝓛 next.ended (next.clauses 𝓛 mem run) (κ, tt) (d, tt) tt h) (fact 𝓤 (h ≡ handed d))
   said h = ex_e 𝓤 _ (λ ws. snd∗ 𝓤 (sem 𝓛 (lasts next.ended (κ, tt) (d, tt) ws)) (fact 𝓤 (h ≡ handed d)))
 
-  exits : (h : Handed) (u : Val) → h ≡ handed d → Is S.the_row h.step (stepVal h.step ∷ [])
-      → ent 𝓤 (⋆ 𝓛 (‵ ((G (κ, tt)).own_val h (u ∷ [])) ∷ (‵ (flft κ q) ⊛ ‵ ftrue) ∷ ‵ Own ∷ [])) (Post (stepVal h.step))
+  exits : (h : Handed) (u : Val) → h ≡ handed d → Is S.the_row h.step (step_val h.step ∷ [])
+      → ent 𝓤 (⋆ 𝓛 (‵ ((G (κ, tt)).own_val h (u ∷ [])) ∷ (‵ (flft κ q) ⊛ ‵ ftrue) ∷ ‵ Own ∷ [])) (Post (step_val h.step))
   exits h u e is =
       qed 𝓛 (‵ ((G (κ, tt)).own_val h (u ∷ [])) ∷ (‵ (flft κ q) ⊛ ‵ ftrue) ∷ ‵ Own ∷ []) ∵
-      suffices ! _ (ends_at 𝓛 at-text.ended stayed (at-text.clauses 𝓛 mem run) (((κ, tt), (q, tt), tt, (s, (n, tt)), at), tt) (stepVal h.step) h.step (tt, (tt, tt)) (tt, (tt, tt))) $
+      suffices ! _ (ends_at 𝓛 at-text.ended stayed (at-text.clauses 𝓛 mem run) (((κ, tt), (q, tt), tt, (s, (n, tt)), at), tt) (step_val h.step) h.step (tt, (tt, tt)) (tt, (tt, tt))) $
       says ! (ap (λ (x : Handed). x.step) e) $ drop ! $ frame ! $
       nothing ! $ owned ! usize (Is usize) (uint_Makes 𝓛 w64) n _ (refl, n-fits) $ fjoin ! $ move ! (1 ∷ 0 ∷ []) $ fjoin ! $ frame ! $
       owned ! S.the_row (Is S.the_row) (LL.makes S.the_type S'.the_plain 𝓛) h.step _ is $ done !
@@ -158,7 +158,7 @@ module _ {M : Type 1} {𝓤 : Ura M} (𝓛 : Logic 𝓤) (mem : Memory → SProp
         -- [what is handed back; the token; what s owns; _4; …; _3; …; _2; …; _1; …; room for _0; …]
         peeks ! (G (κ, tt)) (Is (G (κ, tt))) (shows 𝓛 (G (κ, tt))) h (u ∷ []) (λ is.
         let low = LL.tells HD HL h (u ∷ []) is in
-        let isS : Is S.the_row h.step (stepVal h.step ∷ []) = (LL.owed HD HL h _ is).0 in
+        let isS : Is S.the_row h.step (step_val h.step ∷ []) = (LL.owed HD HL h _ is).0 in
         land ! (from ! (stop !)) (init ! 5 refl ((LL.lawful (R.the_type αᵉ) (R'.the_laws αᵉ) 𝓛).typed h _ is).0) $ rewrite ! 5 (λ (w : Val). ‵ (fat full_share (R'.mir erased) l₃ 0 w)) (ap only low) refl $
         assigns ! (of_opd ! (load ! (from ! (fld ! refl (stop !))) (look_in ! 5 (sub ! 0 refl (whole !))))) (from ! (stop !)) (init ! 11 refl ((LL.lawful S.the_type S'.the_laws 𝓛).typed h.step _ isS).0) $
         returns ! (look ! 11 refl) $ forget ! 3 refl $ forget ! 5 refl $ forget ! 7 refl $ forget ! 9 refl $ forget ! 11 refl $
@@ -168,21 +168,21 @@ module _ {M : Type 1} {𝓤 : Ura M} (𝓛 : Logic 𝓤) (mem : Memory → SProp
 module _ {M : Type 1} {𝓤 : Ura M} (𝓛 : Logic 𝓤) (mem : Memory → SProp 𝓤) (run : Routine → Fun 𝓤) where
   open 𝓛 use {H}
 
-  read-at-walks : (C : Calls 𝓤 H) (Λ : Loops 𝓤 H) → FmC 𝓤 H 𝓛.laws C → Triple 𝓤 (C #session_reader·reader·Reader·next) (Next 𝓛 mem run)
+  read_at_walks : (C : Calls 𝓤 H) (Λ : Loops 𝓤 H) → FmC 𝓤 H 𝓛.laws C → Triple 𝓤 (C #session_reader·reader·Reader·next) (Next 𝓛 mem run)
       → Walks 𝓛 at-text.ended stayed (WpFn 𝓤 H C Λ code.function) (at-text.clauses 𝓛 mem run)
-  read-at-walks C Λ fm known = walked 𝓛 at-text.ended stayed (at-text.clauses 𝓛 mem run) (WpFn 𝓤 H C Λ code.function) (λ κs. (shr_slice_vals, (uint_vals w64, tt))) (λ κs. (shr_slice_Tells (named 0) κs.0 u8, (uint_Tells w64, tt)))
+  read_at_walks C Λ fm known = walked 𝓛 at-text.ended stayed (at-text.clauses 𝓛 mem run) (WpFn 𝓤 H C Λ code.function) (λ κs. (shr_slice_vals, (uint_vals w64, tt))) (λ κs. (shr_slice_Tells (named 0) κs.0 u8, (uint_Tells w64, tt)))
       (λ κs qs bounds a g are. via 𝓤 _ (fst∗ 𝓤 _ (emp 𝓤)) (walk 𝓛 mem run κs.0 qs.0 a.0 a.1.0 are.1.0.1 C Λ fm known are.0))
 
-read-at-meets : {M : Type 1} {𝓤 : Ura M} (𝓛 : Logic 𝓤) (mem : Memory → SProp 𝓤) (run : Routine → Fun 𝓤) (𝓣 : Tables 𝓤 𝓛.H)
+read_at_meets : {M : Type 1} {𝓤 : Ura M} (𝓛 : Logic 𝓤) (mem : Memory → SProp 𝓤) (run : Routine → Fun 𝓤) (𝓣 : Tables 𝓤 𝓛.H)
     → Triple 𝓤 (𝓣.C #session_reader·reader·Reader·next) (Next 𝓛 mem run)
     → Meets 𝓛 at-text.signature (WpFn 𝓤 𝓛.H 𝓣.C 𝓣.Λ code.function) (at-text.spec 𝓛 mem run)
-read-at-meets {𝓤 = 𝓤} 𝓛 mem run 𝓣 known = walk_Meets 𝓛 at-text.ended stayed (Goes-none_slice 𝓛 1 (0 ∷ []) tt (plain (λ _. u8)) yes, (Goes-none 𝓛 1 (λ _. usize) yes (λ κs x f. refl), tt)) (at-text.clauses 𝓛 mem run)
-    (WpFn 𝓤 𝓛.H 𝓣.C 𝓣.Λ code.function) (WpFn-mono 𝓤 𝓛.H 𝓛.laws 𝓣 code.function) (read-at-walks 𝓛 mem run 𝓣.C 𝓣.Λ (fm_of 𝓤 𝓛.H 𝓛.laws 𝓣) known)
+read_at_meets {𝓤 = 𝓤} 𝓛 mem run 𝓣 known = walk_Meets 𝓛 at-text.ended stayed (Goes-none_slice 𝓛 1 (0 ∷ []) tt (plain (λ _. u8)) yes, (Goes-none 𝓛 1 (λ _. usize) yes (λ κs x f. refl), tt)) (at-text.clauses 𝓛 mem run)
+    (WpFn 𝓤 𝓛.H 𝓣.C 𝓣.Λ code.function) (WpFn-mono 𝓤 𝓛.H 𝓛.laws 𝓣 code.function) (read_at_walks 𝓛 mem run 𝓣.C 𝓣.Λ (fm_of 𝓤 𝓛.H 𝓛.laws 𝓣) known)
 
-pub read-at-spec : {M : Type 1} → stated.statement M
+pub read_at_spec : {M : Type 1} → stated.statement M
 unfolding code.routine tables_of
-read-at-spec 𝓤 𝓛 𝓜 𝓡 =
+read_at_spec 𝓤 𝓛 𝓜 𝓡 =
     entered 𝓤 𝓛.H (triple_of 𝓛 at-text.signature (at-text.spec 𝓛 𝓜.mem 𝓡.run))
     (tables 𝓤 𝓛.H 𝓜 𝓡 code.env).C (tables 𝓤 𝓛.H 𝓜 𝓡 code.env).Λ #session_reader·reader·read-at code.function (code.unfolded 𝓤 𝓛.H 𝓜 𝓡)
-    (read-at-meets 𝓛 𝓜.mem 𝓡.run (tables_of 𝓤 𝓛.H 𝓜 (tables 𝓤 𝓛.H 𝓜 𝓡 code.env))
+    (read_at_meets 𝓛 𝓜.mem 𝓡.run (tables_of 𝓤 𝓛.H 𝓜 (tables 𝓤 𝓛.H 𝓜 𝓡 code.env))
     (cited 𝓤 𝓛.H (Next 𝓛 𝓜.mem 𝓡.run) 𝓜 𝓡 code.env #session_reader·reader·Reader·next next-def.routine code.calls-session-reader::reader::Reader::next (next-thm.met 𝓤 𝓛 𝓜 𝓡)))

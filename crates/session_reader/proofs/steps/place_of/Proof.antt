@@ -8,8 +8,8 @@ use Rattle.session_reader.proofs.steps.place_of.Tie as tie
 returns : tie.Need-returns
 returns c = let a = c.before.args in sym (ap (λ (t : Bool). cond t a.first a.at) (eq-eqb a.at 0 c.if1.true))
 
-returns-2 : tie.Need-returns-2
-returns-2 c = let a = c.before.args in sym (ap (λ (t : Bool). cond t a.first a.at) (ne_eqb a.at 0 c.if1.false))
+returns_2 : tie.Need-returns-2
+returns_2 c = let a = c.before.args in sym (ap (λ (t : Bool). cond t a.first a.at) (ne_eqb a.at 0 c.if1.false))
 
 pub place-of-spec : {M : Type 1} → statement M
-place-of-spec = tie.close (tie.spec returns returns-2)
+place-of-spec = tie.close (tie.spec returns returns_2)

@@ -6,28 +6,28 @@ use Prim.Native.Nat.{ℕ, ◌-◌, ◌%◌, ◌≤◌}
 use native.Mathlib.Omega.{arith}
 use lib.Dec.{eqb, leb}
 use borrow.Author.Tests.{not-true, not-false, eq-eqb, ne_eqb, leb-true}
-use Rattle.session_reader.specs.Steps.{stays, placeOf, framesBefore, isPlace, frameStep, lastStep, stepAfter}
+use Rattle.session_reader.specs.Steps.{stays, place_of, frames_before, is_place, frame_step, last_step, step_after}
 use Rattle.session_reader.specs.declared.Answer.TheVariants.{Refused}
 use Rattle.session_reader.proofs.steps.step_after.Statement.{statement}
 use Rattle.session_reader.proofs.steps.step_after.Tie as tie
 
 -- the step by the two tests, at a place
-by_tests : (text : List ℕ) (first frames at place : ℕ) (is last : Bool) → place ≡ placeOf first at → is ≡ isPlace first frames place
-    → last ≡ eqb (framesBefore first place) frames
-    → cond is (cond last (lastStep text (framesBefore first place) at place) (frameStep text (framesBefore first place) at place)) (stays (Refused 8 0) at)
-    ≡ stepAfter text first frames at
-unfolding stepAfter
+by_tests : (text : List ℕ) (first frames at place : ℕ) (is last : Bool) → place ≡ place_of first at → is ≡ is_place first frames place
+    → last ≡ eqb (frames_before first place) frames
+    → cond is (cond last (last_step text (frames_before first place) at place) (frame_step text (frames_before first place) at place)) (stays (Refused 8 0) at)
+    ≡ step_after text first frames at
+unfolding step_after
 by_tests text first frames at place is last p a b =
-    (λ i. cond (a i) (cond (b i) (lastStep text (framesBefore first place) at place) (frameStep text (framesBefore first place) at place)) (stays (Refused 8 0) at))
-    ∙ ap (λ (q : ℕ). cond (isPlace first frames q) (cond (eqb (framesBefore first q) frames) (lastStep text (framesBefore first q) at q) (frameStep text (framesBefore first q) at q)) (stays (Refused 8 0) at)) p
+    (λ i. cond (a i) (cond (b i) (last_step text (frames_before first place) at place) (frame_step text (frames_before first place) at place)) (stays (Refused 8 0) at))
+    ∙ ap (λ (q : ℕ). cond (is_place first frames q) (cond (eqb (frames_before first q) frames) (last_step text (frames_before first q) at q) (frame_step text (frames_before first q) at q)) (stays (Refused 8 0) at)) p
 
 -- a place lies after the three lines, and not behind the last frame
-place-parts : (first frames place : ℕ) → isPlace first frames place ≡ true → (first ≤ place) × (framesBefore first place ≤ frames)
-unfolding isPlace
-place-parts first frames place e =
-    let p = (and-eq-true_iff (leb first place && eqb ((place - first) % 17) 0) (leb (framesBefore first place) frames)).0 e in
+place_parts : (first frames place : ℕ) → is_place first frames place ≡ true → (first ≤ place) × (frames_before first place ≤ frames)
+unfolding is_place
+place_parts first frames place e =
+    let p = (and-eq-true_iff (leb first place && eqb ((place - first) % 17) 0) (leb (frames_before first place) frames)).0 e in
     let q = (and-eq-true_iff (leb first place) (eqb ((place - first) % 17) 0)).0 p.0 in
-    (leb-true first place q.0, leb-true (framesBefore first place) frames p.1)
+    (leb-true first place q.0, leb-true (frames_before first place) frames p.1)
 
 place-of-requires : tie.Need-place-of-requires
 place-of-requires c κs = tt
@@ -55,19 +55,19 @@ module _ (c : tie.Else1) where
   abbrev start : tie.Start
   start = placed.before.before
 
-  is : true ≡ isPlace start.args.first start.args.frames placed.place_of.result
+  is : true ≡ is_place start.args.first start.args.frames placed.place_of.result
   is = sym (not-false c.before.is-place.result c.if1.false) ∙ c.before.is-place.ensures
 
-  within : (start.args.first ≤ placed.place_of.result) × (framesBefore start.args.first placed.place_of.result ≤ start.args.frames)
-  within = place-parts start.args.first start.args.frames placed.place_of.result (sym is)
+  within : (start.args.first ≤ placed.place_of.result) × (frames_before start.args.first placed.place_of.result ≤ start.args.frames)
+  within = place_parts start.args.first start.args.frames placed.place_of.result (sym is)
 
   -- the step by the last test
   abbrev k : ℕ
-  k = framesBefore start.args.first placed.place_of.result
+  k = frames_before start.args.first placed.place_of.result
 
   by_last : (last : Bool) → last ≡ eqb k start.args.frames
-      → cond last (lastStep start.args.text.now k start.args.at placed.place_of.result) (frameStep start.args.text.now k start.args.at placed.place_of.result)
-      ≡ stepAfter start.args.text.now start.args.first start.args.frames start.args.at
+      → cond last (last_step start.args.text.now k start.args.at placed.place_of.result) (frame_step start.args.text.now k start.args.at placed.place_of.result)
+      ≡ step_after start.args.text.now start.args.first start.args.frames start.args.at
   by_last last e =
       let a = start.args in
       by_tests a.text.now a.first a.frames a.at placed.place_of.result true last placed.place_of.ensures is e
@@ -78,8 +78,8 @@ sub-k c = omega (arith, (within c).0)
 last-step-requires : tie.Need-last-step-requires
 last-step-requires c κs = omega (arith, (within c.before).1)
 
-returns-2 : tie.Need-returns-2
-returns-2 c = c.last_step.ensures ∙ by_last c.before.before true (sym (eq-eqb _ _ c.before.if2.true))
+returns_2 : tie.Need-returns-2
+returns_2 c = c.last_step.ensures ∙ by_last c.before.before true (sym (eq-eqb _ _ c.before.if2.true))
 
 frame-step-requires : tie.Need-frame-step-requires
 frame-step-requires c κs = omega (arith, (within c.before).1)
@@ -90,4 +90,4 @@ returns-3 c = c.frame_step.ensures ∙ by_last c.before.before false (sym (ne_eq
 pub step-after-spec : {M : Type 1} → statement M
 step-after-spec =
     tie.close
-    (tie.spec place-of-requires is-place-requires stay-requires returns sub-k last-step-requires returns-2 frame-step-requires returns-3)
+    (tie.spec place-of-requires is-place-requires stay-requires returns sub-k last-step-requires returns_2 frame-step-requires returns-3)

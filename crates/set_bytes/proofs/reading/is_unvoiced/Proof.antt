@@ -1,6 +1,6 @@
 -- `set_bytes::reading::is_unvoiced` meets its contract: it is the five tests. Assumes nothing.
 use borrow.Author.Rules.{rules}
-use Rattle.set_bytes.proofs.Answers.{unvoiced-is}
+use Rattle.set_bytes.proofs.Answers.{unvoiced_is}
 use Rattle.set_bytes.proofs.reading.is_unvoiced.Statement.{statement}
 use Rattle.set_bytes.proofs.reading.is_unvoiced.Tie as tie
 
@@ -22,7 +22,7 @@ shared-slice-read-result-5 c = search rules
 returns : tie.Need-returns
 returns c =
     let entry = c.before.before.before.before.before in
-    unvoiced-is entry.args.bytes.now entry.requires
+    unvoiced_is entry.args.bytes.now entry.requires
 
 pub is-unvoiced-spec : {M : Type 1} → statement M
 is-unvoiced-spec =

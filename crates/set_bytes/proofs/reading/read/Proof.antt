@@ -5,12 +5,12 @@ use Rattle.sets.specs.declared.Indices.{Indices}
 use Rattle.sets.specs.declared.Voicing.{Voicing}
 use Rattle.sets.specs.declared.ParameterSet.TheVariants.{Unvoiced, Voiced}
 use Rattle.set_bytes.specs.declared.SetAnswer.TheVariants.{Set}
-use Rattle.set_bytes.proofs.Answers.{size-owes, voiced-owes, unvoiced-owes, other-owes}
+use Rattle.set_bytes.proofs.Answers.{size_owes, voiced_owes, unvoiced_owes, other_owes}
 use Rattle.set_bytes.proofs.reading.read.Statement.{statement}
 use Rattle.set_bytes.proofs.reading.read.Tie as tie
 
 returns : tie.Need-returns
-returns c = size-owes c.before.before.args.bytes.now c.if1.true
+returns c = size_owes c.before.before.args.bytes.now c.if1.true
 
 shared-slice-read-if2 : tie.Need-shared-slice-read-if2
 shared-slice-read-if2 c = search rules
@@ -21,13 +21,13 @@ read-indices-requires c κs = search rules
 read-voicing-requires : tie.Need-read-voicing-requires
 read-voicing-requires c κs = search rules
 
-returns-2 : tie.Need-returns-2
-returns-2 c =
+returns_2 : tie.Need-returns-2
+returns_2 c =
     let first = c.before.before in
     let size = first.before.before in
     let bytes = size.before.before.args.bytes.now in
     ap₂ (λ (x : Indices) (v : Voicing). Set (Voiced x v)) c.before.read-indices.ensures c.read-voicing.ensures
-    ∙ voiced-owes bytes size.if1.false first.if2.true
+    ∙ voiced_owes bytes size.if1.false first.if2.true
 
 is-unvoiced-requires : tie.Need-is-unvoiced-requires
 is-unvoiced-requires c κs = search rules
@@ -41,14 +41,14 @@ returns-3 c =
     let first = test.before in
     let bytes = first.before.before.before.before.args.bytes.now in
     ap (λ (x : Indices). Set (Unvoiced x)) c.read-indices2.ensures
-    ∙ unvoiced-owes bytes first.if2.false (sym test.is-unvoiced.ensures ∙ c.before.if3.true)
+    ∙ unvoiced_owes bytes first.if2.false (sym test.is-unvoiced.ensures ∙ c.before.if3.true)
 
 returns-4 : tie.Need-returns-4
 returns-4 c =
     let test = c.before in
     let first = test.before in
     let bytes = first.before.before.before.before.args.bytes.now in
-    other-owes bytes first.if2.false (sym test.is-unvoiced.ensures ∙ c.if3.false)
+    other_owes bytes first.if2.false (sym test.is-unvoiced.ensures ∙ c.if3.false)
 
 pub read_spec : {M : Type 1} → statement M
 read_spec =
@@ -58,7 +58,7 @@ read_spec =
     shared-slice-read-if2
     read-indices-requires
     read-voicing-requires
-    returns-2
+    returns_2
     is-unvoiced-requires
     read-indices-requires-2
     returns-3

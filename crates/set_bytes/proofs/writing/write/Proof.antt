@@ -14,8 +14,8 @@ enum-known-set-2 c = search rules
 returns : tie.Need-returns
 returns c = ap bytes_of (sym c.before.set.given.1)
 
-returns-2 : tie.Need-returns-2
-returns-2 c = ap bytes_of (sym c.before.set2.given.1)
+returns_2 : tie.Need-returns-2
+returns_2 c = ap bytes_of (sym c.before.set2.given.1)
 
 pub write_spec : {M : Type 1} → statement M
-write_spec = tie.close (tie.spec enum-known-set enum-known-set-2 returns returns-2)
+write_spec = tie.close (tie.spec enum-known-set enum-known-set-2 returns returns_2)

@@ -5,13 +5,13 @@ use Prim.Native.Nat.{ℕ, ◌*◌, ◌-◌, ◌≤◌}
 use native.Mathlib.Numerals.{add-one}
 use native.Mathlib.Omega.{arith}
 use lib.ListN.{length}
-use Rattle.set_frames.specs.Sending.{setsIn, sentFrom, sent}
-use Rattle.set_frames.proofs.Turns.{SoFar, last-owes, packed-owes, refused-owes}
+use Rattle.set_frames.specs.Sending.{sets_in, sent_from, sent}
+use Rattle.set_frames.proofs.Turns.{SoFar, last_owes, packed_owes, refused_owes}
 use Rattle.set_frames.proofs.frames.pack_all.Statement.{statement}
 use Rattle.set_frames.proofs.frames.pack_all.Tie as tie
 
 abbrev invariant-loop : tie.invariant-loop
-invariant-loop bytes order out₀ sync₀ count k₀ out sync k = (count ≡ setsIn bytes) × (k ≤ count) × (7 * count ≤ length out₀) × SoFar order bytes out₀ sync k out
+invariant-loop bytes order out₀ sync₀ count k₀ out sync k = (count ≡ sets_in bytes) × (k ≤ count) × (7 * count ≤ length out₀) × SoFar order bytes out₀ sync k out
 
 abbrev decreases-loop : tie.decreases-loop
 decreases-loop bytes order out₀ sync₀ count k₀ out sync k = count - k
@@ -25,8 +25,8 @@ loop-holds c =
     let s = c.before.before.before.before in
     let bytes = s.args.bytes.now in
     let order = s.args.order.now in
-    let n : setsIn bytes - 0 ≡ setsIn bytes = omega arith in
-    (refl, omega arith, s.requires, (refl, ap₂ (λ (b : Bool) (m : ℕ). sentFrom order bytes b 0 m) c.fresh-sync.ensures n, refl))
+    let n : sets_in bytes - 0 ≡ sets_in bytes = omega arith in
+    (refl, omega arith, s.requires, (refl, ap₂ (λ (b : Bool) (m : ℕ). sent_from order bytes b 0 m) c.fresh-sync.ensures n, refl))
 
 pack-set-requires : tie.Need-pack-set-requires invariant-loop decreases-loop
 pack-set-requires c κs = omega arith
@@ -50,7 +50,7 @@ returns c =
     let L = turn.before.loop in
     let a = turn.before.before.before.before.before.before.args in
     let le : 7 * L.k ≤ length L.out = omega (arith, L.invariant) in
-    refused-owes a.order.now a.bytes.now a.out.now L.sync L.k L.out L.invariant.3 le turn.loop-test.true L.invariant.2 _ _
+    refused_owes a.order.now a.bytes.now a.out.now L.sync L.k L.out L.invariant.3 le turn.loop-test.true L.invariant.2 _ _
     packed.pack-set.ensures _ c.enum_told.given.1
 
 add-k : tie.Need-overflow-add-k invariant-loop decreases-loop
@@ -66,23 +66,23 @@ loop-again c =
     let L = turn.before.loop in
     let a = turn.before.before.before.before.before.before.args in
     let le : 7 * L.k ≤ length L.out = omega (arith, L.invariant) in
-    let more = packed-owes a.order.now a.bytes.now a.out.now L.sync L.k L.out L.invariant.3 le turn.loop-test.true L.invariant.2 _ _
+    let more = packed_owes a.order.now a.bytes.now a.out.now L.sync L.k L.out L.invariant.3 le turn.loop-test.true L.invariant.2 _ _
     packed.pack-set.ensures _ c.before.answer.given.1 in
     rw add-one (L.invariant.0, omega arith, L.invariant.2, more)
 
 mul-result-2 : tie.Need-overflow-mul-result-2 invariant-loop decreases-loop
 mul-result-2 c = omega arith
 
-same-length-2 : tie.Need-same-length-2 invariant-loop decreases-loop
-same-length-2 c = omega arith
+same_length_2 : tie.Need-same-length-2 invariant-loop decreases-loop
+same_length_2 c = omega arith
 
-returns-2 : tie.Need-returns-2 invariant-loop decreases-loop
-returns-2 c =
+returns_2 : tie.Need-returns-2 invariant-loop decreases-loop
+returns_2 c =
     let L = c.before.loop in
     let a = c.before.before.before.before.before.before.args in
-    let e : L.k ≡ setsIn a.bytes.now = omega (arith, c.loop-test.false) in
+    let e : L.k ≡ sets_in a.bytes.now = omega (arith, c.loop-test.false) in
     let le : 7 * L.k ≤ length L.out = omega (arith, L.invariant) in
-    rw e at (last-owes a.order.now a.bytes.now a.out.now L.sync L.k L.out L.invariant.3 le (omega arith))
+    rw e at (last_owes a.order.now a.bytes.now a.out.now L.sync L.k L.out L.invariant.3 le (omega arith))
 
 pub pack-all-spec : {M : Type 1} → statement M
 pack-all-spec =
@@ -102,5 +102,5 @@ pack-all-spec =
     loop-less
     loop-again
     mul-result-2
-    same-length-2
-    returns-2)
+    same_length_2
+    returns_2)

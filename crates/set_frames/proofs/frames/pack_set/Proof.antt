@@ -2,7 +2,7 @@
 use Prim.Native.Nat.{suc, ◌*◌, ◌≤◌}
 use native.Mathlib.Omega.{arith}
 use lib.ListN.{length}
-use Rattle.set_frames.proofs.Packing.{form-owes, pack-owes}
+use Rattle.set_frames.proofs.Packing.{form_owes, pack_owes}
 use Rattle.set_frames.proofs.frames.pack_set.Statement.{statement}
 use Rattle.set_frames.proofs.frames.pack_set.Tie as tie
 
@@ -37,7 +37,7 @@ returns : tie.Need-returns
 returns c =
     let read = c.before.before in
     let a = read.before.before.before.before.before.args in
-    form-owes a.order.now a.bytes.now a.sync a.k a.out.now _ read.read.ensures _ c.enum_told.given.1
+    form_owes a.order.now a.bytes.now a.sync a.k a.out.now _ read.read.ensures _ c.enum_told.given.1
 
 mul-pack : tie.Need-overflow-mul-pack
 mul-pack c = omega arith
@@ -57,15 +57,15 @@ pack-requires c κs = tt
 same_length : tie.Need-same-length
 same_length c = omega arith
 
-returns-2 : tie.Need-returns-2
-returns-2 c =
+returns_2 : tie.Need-returns-2
+returns_2 c =
     let packed = c.before.before in
     let answer = packed.before.before.before in
     let read = answer.before.before in
     let start = read.before.before.before.before.before in
     let a = start.args in
     let room : 7 * suc a.k ≤ length a.out.now = omega (arith, start.requires) in
-    pack-owes a.order.now a.bytes.now a.sync a.k a.out.now _ read.read.ensures _ answer.answer.given.1 room _ _ packed.pack.ensures
+    pack_owes a.order.now a.bytes.now a.sync a.k a.out.now _ read.read.ensures _ answer.answer.given.1 room _ _ packed.pack.ensures
 
 pub pack-set-spec : {M : Type 1} → statement M
 pack-set-spec =
@@ -87,4 +87,4 @@ pack-set-spec =
     part-pack-end
     pack-requires
     same_length
-    returns-2)
+    returns_2)

@@ -24,11 +24,11 @@ voicing-fits-requires c κs = search rules
 returns : tie.Need-returns
 returns c = c.indices-fit.ensures ∙ ap in_range (sym c.before.before.set.given.1)
 
-returns-2 : tie.Need-returns-2
-returns-2 c =
+returns_2 : tie.Need-returns-2
+returns_2 c =
     ap₂ (λ (a b : Bool). a && b) c.before.indices-fit2.ensures c.voicing-fits.ensures
     ∙ ap in_range (sym c.before.before.before.set2.given.1)
 
 pub is-in-range-spec : {M : Type 1} → statement M
 is-in-range-spec =
-    tie.close (tie.spec enum-known-set indices-fit-requires enum-known-set-2 indices-fit-requires-2 voicing-fits-requires returns returns-2)
+    tie.close (tie.spec enum-known-set indices-fit-requires enum-known-set-2 indices-fit-requires-2 voicing-fits-requires returns returns_2)

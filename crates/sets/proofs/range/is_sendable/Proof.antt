@@ -22,11 +22,11 @@ is-in-range-requires-2 c κs = search rules
 returns : tie.Need-returns
 returns c = search rules
 
-returns-2 : tie.Need-returns-2
-returns-2 c =
+returns_2 : tie.Need-returns-2
+returns_2 c =
     let known = c.before.before.before.set.given in
     ap (λ (b : Bool). b && not (eqb known.0.1.0.bandpass 1)) c.before.is-in-range2.ensures
     ∙ ap sendable (sym known.1)
 
 pub is-sendable-spec : {M : Type 1} → statement M
-is-sendable-spec = tie.close (tie.spec enum_told is-in-range-requires enum-known-set is-in-range-requires-2 returns returns-2)
+is-sendable-spec = tie.close (tie.spec enum_told is-in-range-requires enum-known-set is-in-range-requires-2 returns returns_2)

@@ -9,15 +9,15 @@ use Rattle.sets.proofs.range.voicing_fits.Statement.{statement}
 use Rattle.sets.proofs.range.voicing_fits.Tie as tie
 
 -- a test that always passes changes nothing
-and-true : (a b : Bool) → b ≡ true → a && b ≡ a
-and-true true b e = e
-and-true false b e = refl
+and_true : (a b : Bool) → b ≡ true → a && b ≡ a
+and_true true b e = e
+and_true false b e = refl
 
 returns : tie.Need-returns
 returns c =
     let v = c.before.before.before.args.v in
     let h : v.fourier < 256 = search rules in
-    ap (λ (b : Bool). b && ltb v.aperiodic 2) (sym (and-true (ltb v.pitch 99 && ltb v.bandpass 16) (ltb v.fourier 256) (lt-ltb v.fourier 256 h)))
+    ap (λ (b : Bool). b && ltb v.aperiodic 2) (sym (and_true (ltb v.pitch 99 && ltb v.bandpass 16) (ltb v.fourier 256) (lt-ltb v.fourier 256 h)))
 
 pub voicing-fits-spec : {M : Type 1} → statement M
 voicing-fits-spec = tie.close (tie.spec returns)

@@ -7,13 +7,13 @@ use native.Mathlib.Omega.{arith}
 use lib.Dec.{eqb, leb}
 use lib.ListN.{get_or, take}
 use Rattle.bits.specs.Bits.{bits}
-use Rattle.bits.proofs.Digits.{bits-length}
+use Rattle.bits.proofs.Digits.{bits_length}
 use Rattle.hamming.specs.Word.{length_of}
-use Rattle.hamming.proofs.Lengths.{length-least, length_most}
+use Rattle.hamming.proofs.Lengths.{length_least, length_most}
 use Rattle.hamming.specs.declared.Decoded.TheVariants.{Read, Erased}
 use Rattle.soft.specs.Choice.{choose}
-use Rattle.soft.specs.Prices.{asCheap, keyNumber, leastIn}
-use Rattle.soft.proofs.Outcomes.{outcome-is}
+use Rattle.soft.specs.Prices.{as_cheap, key_number, least_in}
+use Rattle.soft.proofs.Outcomes.{outcome_is}
 use Rattle.soft.proofs.choice.choose.Statement.{statement}
 use Rattle.soft.proofs.choice.choose.Tie as tie
 
@@ -29,9 +29,9 @@ outcome c =
     let n = length_of a.length in
     let p = c.before.before.prices.ensures in
     ap (λ (x : List ℕ). cond c.erases.result Erased (Read (k % 16) (get_or x (k % 16) 0 % 16))) p.0
-    ∙ outcome-is n (length-least a.length) (length_most a.length) (take n a.confidences) (bits n a.word) (bits-length n a.word) p.1 k
-    (c.before.least-key.ensures ∙ ap (λ (x : List ℕ). keyNumber x (leastIn x)) p.0) c.erases.result
-    (c.erases.ensures ∙ ap (λ (x : List ℕ). eqb n 8 && leb 2 (asCheap x (k / 16))) p.0)
+    ∙ outcome_is n (length_least a.length) (length_most a.length) (take n a.confidences) (bits n a.word) (bits_length n a.word) p.1 k
+    (c.before.least-key.ensures ∙ ap (λ (x : List ℕ). key_number x (least_in x)) p.0) c.erases.result
+    (c.erases.ensures ∙ ap (λ (x : List ℕ). eqb n 8 && leb 2 (as_cheap x (k / 16))) p.0)
 
 prices-requires : tie.Need-prices-requires
 prices-requires c κs = tt
@@ -62,8 +62,8 @@ array-read-places-in c = omega arith
 places-in-requires : tie.Need-places-in-requires
 places-in-requires c κs = tt
 
-returns-2 : tie.Need-returns-2
-returns-2 c =
+returns_2 : tie.Need-returns-2
+returns_2 c =
     let e = c.before in
     let k = e.before.before.least-key.result in
     ap (λ (x : ℕ). Read (k % 16) x) c.places-in.ensures
@@ -82,4 +82,4 @@ choose_spec =
     mul-places-in
     array-read-places-in
     places-in-requires
-    returns-2)
+    returns_2)

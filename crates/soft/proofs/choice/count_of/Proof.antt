@@ -6,13 +6,13 @@ use native.Mathlib.Omega.{arith}
 use lib.Dec.{eqb}
 use lib.ListN.{length}
 use Rattle.bits.specs.Bits.{ones, cut}
-use Rattle.soft.specs.Prices.{costIn}
-use Rattle.soft.proofs.Counts.{ones-more}
+use Rattle.soft.specs.Prices.{cost_in}
+use Rattle.soft.proofs.Counts.{ones_more}
 use Rattle.soft.proofs.choice.count_of.Statement.{statement}
 use Rattle.soft.proofs.choice.count_of.Tie as tie
 
 abbrev invariant-loop : tie.invariant-loop
-invariant-loop cost prices count₀ u₀ count u = (u ≤ 16) × (length prices ≡ 16) × (count ≤ u) × (count ≡ ones (cut (λ v. eqb (costIn prices v) cost) 0 u))
+invariant-loop cost prices count₀ u₀ count u = (u ≤ 16) × (length prices ≡ 16) × (count ≤ u) × (count ≡ ones (cut (λ v. eqb (cost_in prices v) cost) 0 u))
 
 abbrev decreases-loop : tie.decreases-loop
 decreases-loop cost prices count₀ u₀ count u = 16 - u
@@ -42,15 +42,15 @@ loop-again : tie.Need-loop-preserved invariant-loop decreases-loop
 loop-again c =
     let L = c.before.before.loop in
     let a = c.before.before.before.args in
-    let test : ℕ → Bool = λ v. eqb (costIn a.t1 v) a.cost in
-    (omega arith, L.invariant.1, omega (arith, L.invariant.2, c.counted.ensures.1), ap₂ ◌+◌ L.invariant.3 c.counted.ensures.0 ∙ sym (ones-more test L.u))
+    let test : ℕ → Bool = λ v. eqb (cost_in a.t1 v) a.cost in
+    (omega arith, L.invariant.1, omega (arith, L.invariant.2, c.counted.ensures.1), ap₂ ◌+◌ L.invariant.3 c.counted.ensures.0 ∙ sym (ones_more test L.u))
 
 returns : tie.Need-returns invariant-loop decreases-loop
 returns c =
     let L = c.before.loop in
     let a = c.before.before.args in
     let all : L.u ≡ 16 = omega arith in
-    L.invariant.3 ∙ ap (λ (n : ℕ). ones (cut (λ v. eqb (costIn a.t1 v) a.cost) 0 n)) all
+    L.invariant.3 ∙ ap (λ (n : ℕ). ones (cut (λ v. eqb (cost_in a.t1 v) a.cost) 0 n)) all
 
 pub count-of-spec : {M : Type 1} → statement M
 count-of-spec =

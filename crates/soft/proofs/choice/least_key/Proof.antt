@@ -6,14 +6,14 @@ use native.Mathlib.Numerals.{add-one}
 use native.Mathlib.Omega.{arith}
 use lib.Dec.{ltb}
 use lib.ListN.{length}
-use Rattle.soft.specs.Least.{leastBy}
-use Rattle.soft.specs.Prices.{keyNumber}
-use Rattle.soft.proofs.Keys.{keyIn, number_more}
+use Rattle.soft.specs.Least.{least_by}
+use Rattle.soft.specs.Prices.{key_number}
+use Rattle.soft.proofs.Keys.{key_in, number_more}
 use Rattle.soft.proofs.choice.least_key.Statement.{statement}
 use Rattle.soft.proofs.choice.least_key.Tie as tie
 
 abbrev invariant-loop : tie.invariant-loop
-invariant-loop prices least₀ u₀ least u = (u ≤ 16) × (length prices ≡ 16) × (least ≡ keyNumber prices (leastBy (keyIn prices) u))
+invariant-loop prices least₀ u₀ least u = (u ≤ 16) × (length prices ≡ 16) × (least ≡ key_number prices (least_by (key_in prices) u))
 
 abbrev decreases-loop : tie.decreases-loop
 decreases-loop prices least₀ u₀ least u = 16 - u
@@ -25,7 +25,7 @@ key-of-requires : tie.Need-key-of-requires invariant-loop decreases-loop
 key-of-requires c κs = omega arith
 
 loop-holds : tie.Need-loop-init invariant-loop decreases-loop
-unfolding leastBy
+unfolding least_by
 loop-holds c = (omega arith, omega arith, c.key_of.ensures)
 
 mul-key-of : tie.Need-overflow-mul-key-of invariant-loop decreases-loop
@@ -53,13 +53,13 @@ loop-again : tie.Need-loop-preserved invariant-loop decreases-loop
 loop-again c =
     let L = c.before.before.before.loop in
     let prices = c.before.before.before.before.before.args.t1 in
-    let b : ℕ = leastBy (keyIn prices) L.u in
+    let b : ℕ = least_by (key_in prices) L.u in
     let k = c.before.key-of2 in (
       omega arith,
       L.invariant.1,
       c.smaller.ensures
           ∙ ap₂ (λ (x y : ℕ). cond (ltb x y) x y) k.ensures L.invariant.2
-          ∙ sym (number_more prices L.u (omega arith)) ∙ ap (λ (n : ℕ). keyNumber prices (leastBy (keyIn prices) n)) (sym (add-one L.u)),
+          ∙ sym (number_more prices L.u (omega arith)) ∙ ap (λ (n : ℕ). key_number prices (least_by (key_in prices) n)) (sym (add-one L.u)),
     )
 
 returns : tie.Need-returns invariant-loop decreases-loop
@@ -67,7 +67,7 @@ returns c =
     let L = c.before.loop in
     let all : L.u ≡ 16 = omega arith in
     let prices = c.before.before.before.args.t1 in
-    L.invariant.2 ∙ ap (λ (n : ℕ). keyNumber prices (leastBy (keyIn prices) n)) all
+    L.invariant.2 ∙ ap (λ (n : ℕ). key_number prices (least_by (key_in prices) n)) all
 
 pub least-key-spec : {M : Type 1} → statement M
 least-key-spec =

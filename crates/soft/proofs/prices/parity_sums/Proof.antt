@@ -4,21 +4,21 @@ use mathlib.Core.List.{List, [], ◌∷◌, map}
 use Prim.Native.Nat.{ℕ}
 use native.Mathlib.Omega.{arith}
 use lib.ListN.{length, get_or, take, drop}
-use Rattle.hamming.specs.Word.{length_of, dataBits}
+use Rattle.hamming.specs.Word.{length_of, data_bits}
 use Rattle.hamming.specs.declared.WordLength.{WordLength}
 use Rattle.soft.specs.Prices.{price, SumsOf}
-use Rattle.soft.proofs.Sums.{sums-rest, eight-entries}
+use Rattle.soft.proofs.Sums.{sums_rest, eight_entries}
 use Rattle.soft.proofs.prices.parity_sums.Statement.{statement}
 use Rattle.soft.proofs.prices.parity_sums.Tie as tie
 
 -- what is claimed of a result
 abbrev Claim : List ℕ → WordLength → List ℕ → Type 0
-Claim r l q = SumsOf (map price (drop (dataBits (length_of l)) (take (length_of l) q))) r
+Claim r l q = SumsOf (map price (drop (data_bits (length_of l)) (take (length_of l) q))) r
 
 -- it holds where it does of the eight confidences one by one
 claim : (r : List ℕ) (l k : WordLength) (q : List ℕ) → l ≡ k → length q ≡ 8
     → Claim r k (get_or q 0 0 ∷ get_or q 1 0 ∷ get_or q 2 0 ∷ get_or q 3 0 ∷ get_or q 4 0 ∷ get_or q 5 0 ∷ get_or q 6 0 ∷ get_or q 7 0 ∷ []) → Claim r l q
-claim r l k q e h x = subst⁻¹ (λ (j : WordLength). Claim r j q) e (subst⁻¹ (Claim r k) (eight-entries q h) x)
+claim r l k q e h x = subst⁻¹ (λ (j : WordLength). Claim r j q) e (subst⁻¹ (Claim r k) (eight_entries q h) x)
 
 enum_told : tie.Need-enum-told
 enum_told c = omega arith
@@ -73,14 +73,14 @@ returns c =
     let s = c.before.before.before in
     let q = s.args.t2 in
     claim c.sums.result s.args.length _ q c.before.enum_told.given.1 (omega arith)
-    (sums-rest (price 0) (price (get_or q 3 0) ∷ price (get_or q 4 0) ∷ price (get_or q 5 0) ∷ []) c.sums.result c.sums.ensures)
+    (sums_rest (price 0) (price (get_or q 3 0) ∷ price (get_or q 4 0) ∷ price (get_or q 5 0) ∷ []) c.sums.result c.sums.ensures)
 
-returns-2 : tie.Need-returns-2
-returns-2 c =
+returns_2 : tie.Need-returns-2
+returns_2 c =
     let s = c.before.before.before in
     let q = s.args.t2 in
     claim c.sums2.result s.args.length _ q c.before.enum-told2.given.1 (omega arith)
-    (sums-rest (price 0) (price (get_or q 4 0) ∷ price (get_or q 5 0) ∷ price (get_or q 6 0) ∷ []) c.sums2.result c.sums2.ensures)
+    (sums_rest (price 0) (price (get_or q 4 0) ∷ price (get_or q 5 0) ∷ price (get_or q 6 0) ∷ []) c.sums2.result c.sums2.ensures)
 
 returns-3 : tie.Need-returns-3
 returns-3 c =
@@ -108,5 +108,5 @@ parity-sums-spec =
     array-read-sums-10
     sums-requires-3
     returns
-    returns-2
+    returns_2
     returns-3)

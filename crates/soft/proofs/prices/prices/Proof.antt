@@ -7,29 +7,29 @@ use native.Mathlib.Omega.{arith}
 use lib.ListN.{length, get_or, take, drop, set, replicate}
 use lib.Seq.{length-take-le}
 use Rattle.bits.specs.Bits.{bits, cut}
-use Rattle.bits.proofs.Cut.{cut-length, cut_at, cut-ext}
-use Rattle.bits.proofs.Digits.{bits-length}
-use Rattle.bits.proofs.Front.{front-more, front-all}
+use Rattle.bits.proofs.Cut.{cut_length, cut_at, cut_ext}
+use Rattle.bits.proofs.Digits.{bits_length}
+use Rattle.bits.proofs.Front.{front_more, front_all}
 use Rattle.hamming.specs.Word.{length_of}
 use Rattle.hamming.specs.declared.WordLength.{WordLength}
-use Rattle.hamming.proofs.Lengths.{length-least, length_most}
-use Rattle.soft.specs.Choice.{codeWords}
-use Rattle.soft.specs.Prices.{priceOf, entryPrice, EntryFits}
+use Rattle.hamming.proofs.Lengths.{length_least, length_most}
+use Rattle.soft.specs.Choice.{code_words}
+use Rattle.soft.specs.Prices.{price_of, entry_price, EntryFits}
 use Rattle.soft.specs.declared.prices.Came.{Came}
-use Rattle.soft.proofs.Entries.{codeWords-le, entry-is}
+use Rattle.soft.proofs.Entries.{code_words_le, entry_is}
 use Rattle.soft.proofs.prices.prices.Statement.{statement}
 use Rattle.soft.proofs.prices.prices.Tie as tie
 
 -- the prices, by the sums
 abbrev target : WordLength → List ℕ → List ℕ → Came → List ℕ
-target length of-data of-parity came = cut (entryPrice (length_of length) came.data came.parity of-data of-parity) 0 (codeWords (length_of length))
+target length of_data of_parity came = cut (entry_price (length_of length) came.data came.parity of_data of_parity) 0 (code_words (length_of length))
 
 abbrev invariant-loop : tie.invariant-loop
-invariant-loop length word of-data of-parity came prices₀ u₀ u-end prices u =
-    (u ≤ u-end) × (u-end ≤ 16) × (u-end ≡ codeWords (length_of length)) × (prices ≡ take u (target length of-data of-parity came) ++ drop u (replicate 16 65535))
+invariant-loop length word of_data of_parity came prices₀ u₀ u-end prices u =
+    (u ≤ u-end) × (u-end ≤ 16) × (u-end ≡ code_words (length_of length)) × (prices ≡ take u (target length of_data of_parity came) ++ drop u (replicate 16 65535))
 
 abbrev decreases-loop : tie.decreases-loop
-decreases-loop length word of-data of-parity came prices₀ u₀ u-end prices u = u-end - u
+decreases-loop length word of_data of_parity came prices₀ u₀ u-end prices u = u-end - u
 
 -- the word's length, what came, and the sums of its prices
 module _ (p : tie.After-parts-of invariant-loop decreases-loop) where
@@ -42,24 +42,24 @@ module _ (p : tie.After-parts-of invariant-loop decreases-loop) where
   abbrev came : Came
   came = p.parts-of.result
 
-  abbrev of-data : List ℕ
-  of-data = p.before.before.data-sums.result
+  abbrev of_data : List ℕ
+  of_data = p.before.before.data-sums.result
 
-  abbrev of-parity : List ℕ
-  of-parity = p.before.parity-sums.result
+  abbrev of_parity : List ℕ
+  of_parity = p.before.parity-sums.result
 
-  count-is : came.count ≡ codeWords (length_of l)
-  count-is = p.parts-of.ensures.1.1.0
+  count_is : came.count ≡ code_words (length_of l)
+  count_is = p.parts-of.ensures.1.1.0
 
   -- the sums for data u are there, and are its price
-  price-is : (u : ℕ) → u < codeWords (length_of l)
-      → (entryPrice (length_of l) came.data came.parity of-data of-parity u ≡ priceOf (length_of l) (take (length_of l) start.args.q) (bits (length_of l) start.args.word) u)
-      × EntryFits (length_of l) came.data came.parity of-data of-parity u
-  price-is u h =
+  price_is : (u : ℕ) → u < code_words (length_of l)
+      → (entry_price (length_of l) came.data came.parity of_data of_parity u ≡ price_of (length_of l) (take (length_of l) start.args.q) (bits (length_of l) start.args.word) u)
+      × EntryFits (length_of l) came.data came.parity of_data of_parity u
+  price_is u h =
       let n : ℕ = length_of l in
       let given = p.parts-of.ensures in
-      entry-is n (length-least l) (length_most l) came.data came.parity given.1.1.1.0 given.1.1.1.1 of-data of-parity
-      (take n start.args.q) (bits n start.args.word) (length-take-le n start.args.q (omega (arith, length_most l))) (bits-length n start.args.word)
+      entry_is n (length_least l) (length_most l) came.data came.parity given.1.1.1.0 given.1.1.1.1 of_data of_parity
+      (take n start.args.q) (bits n start.args.word) (length-take-le n start.args.q (omega (arith, length_most l))) (bits_length n start.args.word)
       given.0 given.1.0 p.before.before.data-sums.ensures p.before.parity-sums.ensures u h
 
 data-sums-requires : tie.Need-data-sums-requires invariant-loop decreases-loop
@@ -72,7 +72,7 @@ parts-of-requires : tie.Need-parts-of-requires invariant-loop decreases-loop
 parts-of-requires c κs = tt
 
 loop-holds : tie.Need-loop-init invariant-loop decreases-loop
-loop-holds c = (omega arith, rw (count-is c) (codeWords-le (length_of (l c)) (length-least (l c)) (length_most (l c))), count-is c, refl)
+loop-holds c = (omega arith, rw (count_is c) (code_words_le (length_of (l c)) (length_least (l c)) (length_most (l c))), count_is c, refl)
 
 cast-price-at : tie.Need-overflow-cast-price-at invariant-loop decreases-loop
 cast-price-at c = omega arith
@@ -80,7 +80,7 @@ cast-price-at c = omega arith
 price-at-requires : tie.Need-price-at-requires invariant-loop decreases-loop
 price-at-requires c κs =
     let L = c.before.before.before.loop in
-    (price-is c.before.before.before.before L.u (omega (arith, L.invariant.2))).1
+    (price_is c.before.before.before.before L.u (omega (arith, L.invariant.2))).1
 
 mul-prices : tie.Need-overflow-mul-prices invariant-loop decreases-loop
 mul-prices c = omega arith
@@ -99,26 +99,26 @@ loop-again c =
     let L = c.before.before.before.before.loop in
     let p = c.before.before.before.before.before in
     let n = length_of (l p) in
-    let e = entryPrice n (came p).data (came p).parity (of-data p) (of-parity p) in
-    let inside : L.u < codeWords n = omega (arith, L.invariant.2) in
-    let room : L.u < length (cut e 0 (codeWords n)) = omega (arith, cut-length e 0 (codeWords n), inside) in
-    let stored : c.price-at.result ≡ get_or (cut e 0 (codeWords n)) L.u 0 = c.price-at.ensures ∙ sym (cut_at 0 e 0 (codeWords n) L.u inside ∙ ap e (zero-add L.u)) in (
+    let e = entry_price n (came p).data (came p).parity (of_data p) (of_parity p) in
+    let inside : L.u < code_words n = omega (arith, L.invariant.2) in
+    let room : L.u < length (cut e 0 (code_words n)) = omega (arith, cut_length e 0 (code_words n), inside) in
+    let stored : c.price-at.result ≡ get_or (cut e 0 (code_words n)) L.u 0 = c.price-at.ensures ∙ sym (cut_at 0 e 0 (code_words n) L.u inside ∙ ap e (zero-add L.u)) in (
       omega arith,
       L.invariant.1,
       L.invariant.2,
-      ap₂ (λ (d : List ℕ) (x : ℕ). set d L.u x) L.invariant.3 stored ∙ front-more (cut e 0 (codeWords n)) (replicate 16 65535) L.u 0 (omega arith) room,
+      ap₂ (λ (d : List ℕ) (x : ℕ). set d L.u x) L.invariant.3 stored ∙ front_more (cut e 0 (code_words n)) (replicate 16 65535) L.u 0 (omega arith) room,
     )
 
 returns : tie.Need-returns invariant-loop decreases-loop
 returns c =
     let p = c.before.before in
     let n = length_of (l p) in
-    let s = target (l p) (of-data p) (of-parity p) (came p) in
-    let size : length s ≤ codeWords n = omega (arith, cut-length (entryPrice n (came p).data (came p).parity (of-data p) (of-parity p)) 0 (codeWords n)) in
-    let all : c.before.loop.u ≡ codeWords n = omega (arith, c.before.loop.invariant.2) in (
-      front-all s (replicate 16 65535) _ _ (codeWords n) c.before.loop.invariant.3 all size
-          ∙ ap (λ (front : List ℕ). front ++ drop (codeWords n) (replicate 16 65535)) (cut-ext _ _ 0 (codeWords n) (λ j a b. (price-is p j (omega arith)).0)),
-      λ v h. omega (arith, (price-is p v h).0, (price-is p v h).1.2, (price-is p v h).1.3),
+    let s = target (l p) (of_data p) (of_parity p) (came p) in
+    let size : length s ≤ code_words n = omega (arith, cut_length (entry_price n (came p).data (came p).parity (of_data p) (of_parity p)) 0 (code_words n)) in
+    let all : c.before.loop.u ≡ code_words n = omega (arith, c.before.loop.invariant.2) in (
+      front_all s (replicate 16 65535) _ _ (code_words n) c.before.loop.invariant.3 all size
+          ∙ ap (λ (front : List ℕ). front ++ drop (code_words n) (replicate 16 65535)) (cut_ext _ _ 0 (code_words n) (λ j a b. (price_is p j (omega arith)).0)),
+      λ v h. omega (arith, (price_is p v h).0, (price_is p v h).1.2, (price_is p v h).1.3),
     )
 
 pub prices-spec : {M : Type 1} → statement M

@@ -4,7 +4,7 @@ use mathlib.Core.List.{List, [], ◌∷◌}
 use Prim.Native.Nat.{ℕ}
 use native.Mathlib.Omega.{arith}
 use Rattle.soft.specs.Prices.{SumsOf}
-use Rattle.soft.proofs.Sums.{fourSums, sums-of}
+use Rattle.soft.proofs.Sums.{four_sums, sums_of}
 use Rattle.soft.proofs.prices.sums.Statement.{statement}
 use Rattle.soft.proofs.prices.sums.Tie as tie
 
@@ -77,9 +77,9 @@ returns c =
     let c' = c.before.price3 in
     let b = c.before.before.price2 in
     let a = c.before.before.before.price in
-    subst (λ (ps : List ℕ). SumsOf ps (fourSums a.result b.result c'.result d.result))
+    subst (λ (ps : List ℕ). SumsOf ps (four_sums a.result b.result c'.result d.result))
     (λ i. a.ensures.0 i ∷ b.ensures.0 i ∷ c'.ensures.0 i ∷ d.ensures.0 i ∷ [])
-    (sums-of a.result b.result c'.result d.result a.ensures.1 b.ensures.1 c'.ensures.1 d.ensures.1)
+    (sums_of a.result b.result c'.result d.result a.ensures.1 b.ensures.1 c'.ensures.1 d.ensures.1)
 
 pub sums-spec : {M : Type 1} → statement M
 sums-spec =

@@ -9,12 +9,12 @@ use lib.Seq.{take_all}
 use lib.IntN.{pos}
 use mir.Syntax.{w64}
 use mir.Val.{to_z, of_z}
-use Rattle.codebook_values.proofs.Sizes.{number-back}
+use Rattle.codebook_values.proofs.Sizes.{number_back}
 use Rattle.spectrum.specs.Lines.{lines}
-use Rattle.value_lines.specs.Lines.{valueLine}
+use Rattle.value_lines.specs.Lines.{value_line}
 use Rattle.text.specs.Placing.{Appended}
-use Rattle.text.proofs.Additions.{line-added}
-use Rattle.text.proofs.Puts.{appended-none, appended-append}
+use Rattle.text.proofs.Additions.{line_added}
+use Rattle.text.proofs.Puts.{appended_none, appended_append}
 use Rattle.spectrum.proofs.Output.{lines_more}
 use borrow.Author.Rules.{rules}
 use Rattle.spectrum.proofs.lines.write_lines.Statement.{statement}
@@ -29,7 +29,7 @@ decreases-loop out₀ at numbers end₀ i₀ out end i = 10 - i
 
 loop-holds : tie.Need-loop-init invariant-loop decreases-loop
 unfolding lines
-loop-holds c = (omega arith, search rules, refl, omega arith, appended-none c.before.args.out.now c.before.args.at)
+loop-holds c = (omega arith, search rules, refl, omega arith, appended_none c.before.args.out.now c.before.args.at)
 
 mul-value-line : tie.Need-overflow-mul-value-line invariant-loop decreases-loop
 mul-value-line c = omega arith
@@ -57,10 +57,10 @@ loop-again c =
     let s = g.before.before.before.before.args in
     let x = get_or s.t1 L.i (pos 0) in
     let h : L.i < length s.t1 = omega arith in
-    let q = line-added (valueLine (to_z w64 (of_z w64 x))) L.out _ L.end 22 _ _ v.value_line.ensures c.end_of_lem.ensures (omega arith) in
-    let e = rw (number-back x g.value-line-arg.given) at q.0 in
-    let m : lines (take (L.i + 1) s.t1) ≡ lines (take L.i s.t1) ++ valueLine x = rw add-one (lines_more s.t1 L.i (pos 0) h) in
-    (omega arith, L.invariant.1, search rules, omega (arith, q.1), rw m (appended-append _ _ _ _ _ _ _ _ L.invariant.4 e))
+    let q = line_added (value_line (to_z w64 (of_z w64 x))) L.out _ L.end 22 _ _ v.value_line.ensures c.end_of_lem.ensures (omega arith) in
+    let e = rw (number_back x g.value-line-arg.given) at q.0 in
+    let m : lines (take (L.i + 1) s.t1) ≡ lines (take L.i s.t1) ++ value_line x = rw add-one (lines_more s.t1 L.i (pos 0) h) in
+    (omega arith, L.invariant.1, search rules, omega (arith, q.1), rw m (appended_append _ _ _ _ _ _ _ _ L.invariant.4 e))
 
 same_length : tie.Need-same-length invariant-loop decreases-loop
 same_length c = omega arith

@@ -4,9 +4,9 @@ use mathlib.Core.Path.{◌≡◌, ap, ◌∙◌}
 use lib.ListN.{length}
 use native.Mathlib.Omega.{arith}
 use borrow.Author.Rules.{rules}
-use Rattle.spectrum.specs.Values.{ofFrame}
+use Rattle.spectrum.specs.Values.{of_frame}
 use Rattle.spectrum.specs.Lines.{text}
-use Rattle.spectrum.proofs.Inputs.{read-printed}
+use Rattle.spectrum.proofs.Inputs.{read_printed}
 use Rattle.spectrum.proofs.printing.write_printed.Statement.{statement}
 use Rattle.spectrum.proofs.printing.write_printed.Tie as tie
 
@@ -36,8 +36,8 @@ returns c =
     let w = c.write-text.ensures in (
       λ i f g hi hf hg.
           w.0
-          ∙ ap text (values.of-frame.ensures ∙ (λ k. ofFrame (first.front.ensures k) (second.front2.ensures k) (third.front3.ensures k)))
-          ∙ read-printed a.input.now a.n a.lsf.now a.l a.magnitudes.now a.m sized (omega arith) (omega arith) i f g hi hf hg,
+          ∙ ap text (values.of-frame.ensures ∙ (λ k. of_frame (first.front.ensures k) (second.front2.ensures k) (third.front3.ensures k)))
+          ∙ read_printed a.input.now a.n a.lsf.now a.l a.magnitudes.now a.m sized (omega arith) (omega arith) i f g hi hf hg,
       w.1,
     )
 

@@ -1,6 +1,6 @@
 -- `spectrum::values::of_codebooks` meets its contract: both calls are made, and the first refusal counts. Assumes nothing.
 use native.Mathlib.Omega.{arith}
-use Rattle.spectrum.proofs.Answers.{codebooks-owe}
+use Rattle.spectrum.proofs.Answers.{codebooks_owe}
 use Rattle.spectrum.proofs.values.of_codebooks.Statement.{statement}
 use Rattle.spectrum.proofs.values.of_codebooks.Tie as tie
 
@@ -32,7 +32,7 @@ returns c =
     let first = third.before.before in
     let fourth = first.before.before in
     let a = fourth.before.before.args in
-    codebooks-owe a.set a.lsf.now a.magnitudes.now _ _ _ _ _ _ _ fourth.lsf-values.ensures first.values-refusal.ensures
+    codebooks_owe a.set a.lsf.now a.magnitudes.now _ _ _ _ _ _ _ fourth.lsf-values.ensures first.values-refusal.ensures
     third.magnitudes.ensures second.values-refusal2.ensures c.first-refusal.ensures
 
 pub of-codebooks-spec : {M : Type 1} → statement M

@@ -3,8 +3,8 @@ use mathlib.Core.Path.{◌∙◌}
 use lib.IntN.{pos}
 use lib.ListN.{replicate, length-replicate}
 use native.Mathlib.Omega.{arith}
-use Rattle.spectrum.specs.Values.{ofCodebooks}
-use Rattle.spectrum.proofs.Answers.{refusal-owes, texts-owe}
+use Rattle.spectrum.specs.Values.{of_codebooks}
+use Rattle.spectrum.proofs.Answers.{refusal_owes, texts_owe}
 use Rattle.spectrum.proofs.values.of_texts.Statement.{statement}
 use Rattle.spectrum.proofs.values.of_texts.Tie as tie
 
@@ -41,7 +41,7 @@ returns c =
     let fourth = first.before.before in
     let a = fourth.before.before.before.before.args in
     c.refused.ensures
-    ∙ refusal-owes a.set a.lsf.now a.magnitudes.now _ _ _ _ _ fourth.read-lsf.ensures.0 first.text-refusal.ensures
+    ∙ refusal_owes a.set a.lsf.now a.magnitudes.now _ _ _ _ _ fourth.read-lsf.ensures.0 first.text-refusal.ensures
     third.read-magnitudes.ensures.0 second.text-refusal2.ensures n.first-refusal.ensures c.before.if1.true
 
 slice-aggregate-of-codebooks : tie.Need-slice-aggregate-of-codebooks
@@ -53,8 +53,8 @@ slice-aggregate-of-codebooks-2 c = omega arith
 of-codebooks-requires : tie.Need-of-codebooks-requires
 of-codebooks-requires c κs = tt
 
-returns-2 : tie.Need-returns-2
-returns-2 c =
+returns_2 : tie.Need-returns-2
+returns_2 c =
     let n = c.before.before.before.before in
     let second = n.before in
     let third = second.before.before in
@@ -62,8 +62,8 @@ returns-2 c =
     let fourth = first.before.before in
     let a = fourth.before.before.before.before.args in
     c.of-codebooks.ensures
-    ∙ (λ i. ofCodebooks a.set (fourth.read-lsf.ensures.1 i) (third.read-magnitudes.ensures.1 i))
-    ∙ texts-owe a.set a.lsf.now a.magnitudes.now _ _ _ _ _ fourth.read-lsf.ensures.0 first.text-refusal.ensures
+    ∙ (λ i. of_codebooks a.set (fourth.read-lsf.ensures.1 i) (third.read-magnitudes.ensures.1 i))
+    ∙ texts_owe a.set a.lsf.now a.magnitudes.now _ _ _ _ _ fourth.read-lsf.ensures.0 first.text-refusal.ensures
     third.read-magnitudes.ensures.0 second.text-refusal2.ensures n.first-refusal.ensures
     (replicate 3200 (pos 0)) (replicate 2560 (pos 0)) (length-replicate 3200 (pos 0)) (length-replicate 2560 (pos 0)) c.before.before.before.if1.false
 
@@ -83,4 +83,4 @@ of-texts-spec =
     slice-aggregate-of-codebooks
     slice-aggregate-of-codebooks-2
     of-codebooks-requires
-    returns-2)
+    returns_2)

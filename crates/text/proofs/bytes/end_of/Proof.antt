@@ -13,8 +13,8 @@ enum_told c = omega arith
 returns : tie.Need-returns
 returns c = search rules
 
-returns-2 : tie.Need-returns-2
-returns-2 c = search rules
+returns_2 : tie.Need-returns-2
+returns_2 c = search rules
 
 pub end-of-spec : {M : Type 1} → statement M
-end-of-spec = tie.close (tie.spec enum-known-answer enum_told returns returns-2)
+end-of-spec = tie.close (tie.spec enum-known-answer enum_told returns returns_2)

@@ -4,7 +4,7 @@ use mathlib.Core.List.{[], ◌∷◌}
 use Prim.Native.Nat.{ℕ, ◌+◌, ◌*◌, ◌/◌, ◌%◌}
 use native.Mathlib.Omega.{arith}
 use lib.ListN.{set, length-set}
-use Rattle.bits.specs.Ascii.{digitByte}
+use Rattle.bits.specs.Ascii.{digit_byte}
 use Rattle.text.specs.Placing.{written}
 use Rattle.text.proofs.Puts.{pair_put}
 use Rattle.text.proofs.decimal.write_pair.Statement.{statement}
@@ -54,8 +54,8 @@ same_length c =
 returns : tie.Need-returns
 returns c =
     let a = c.args in
-    let first : both a.n % 256 ≡ digitByte (a.n % 100 / 10) = omega arith in
-    let second : both a.n / 256 ≡ digitByte (a.n % 100 % 10) = omega arith in
+    let first : both a.n % 256 ≡ digit_byte (a.n % 100 / 10) = omega arith in
+    let second : both a.n / 256 ≡ digit_byte (a.n % 100 % 10) = omega arith in
     let p = pair_put a.out.now a.at (both a.n % 256) (both a.n / 256) (omega arith) in
     (p.0, p.1 ∙ (λ i. written (first i ∷ second i ∷ []) a.at a.out.now))
 

@@ -12,14 +12,14 @@ same_length c = c.before.before.write-small.auto.1.0
 returns : tie.Need-returns
 returns c = c.before.before.write-small.ensures
 
-write-hundreds-requires : tie.Need-write-hundreds-requires
-write-hundreds-requires c κs = omega arith
+write_hundreds_requires : tie.Need-write-hundreds-requires
+write_hundreds_requires c κs = omega arith
 
-same-length-2 : tie.Need-same-length-2
-same-length-2 c = c.before.before.write-hundreds.auto.1.0
+same_length_2 : tie.Need-same-length-2
+same_length_2 c = c.before.before.write-hundreds.auto.1.0
 
-returns-2 : tie.Need-returns-2
-returns-2 c = c.before.before.write-hundreds.ensures
+returns_2 : tie.Need-returns-2
+returns_2 c = c.before.before.write-hundreds.ensures
 
 pub write-short-spec : {M : Type 1} → statement M
-write-short-spec = tie.close (tie.spec write-small-requires same_length returns write-hundreds-requires same-length-2 returns-2)
+write-short-spec = tie.close (tie.spec write-small-requires same_length returns write_hundreds_requires same_length_2 returns_2)

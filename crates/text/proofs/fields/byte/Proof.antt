@@ -6,9 +6,9 @@ use lib.ListN.{length}
 use mir.Syntax.{w8}
 use borrow.Kind.Array.{e_int, good_length}
 use Rattle.text.specs.Text.{decimal}
-use Rattle.text.proofs.Answers.{test-room}
-use Rattle.text.proofs.Decimals.{decimal-length}
-use Rattle.text.proofs.Rooms.{end-le, text-room, field-owes}
+use Rattle.text.proofs.Answers.{test_room}
+use Rattle.text.proofs.Decimals.{decimal_length}
+use Rattle.text.proofs.Rooms.{end_le, text_room, field_owes}
 use Rattle.text.proofs.Widths.{field_is}
 use Rattle.text.proofs.fields.byte.Statement.{statement}
 use Rattle.text.proofs.fields.byte.Tie as tie
@@ -20,11 +20,11 @@ size c = good_length (e_int w8) 16 c.args.name _ c.well-formed.0
 fits : (c : tie.After-within-name) → c.within-name.result ≤ 16
 fits c =
     let s = c.before.before in
-    end-le s.args.name (size s) s.args.width c.within-name.result c.within-name.ensures
+    end_le s.args.name (size s) s.args.width c.within-name.result c.within-name.ensures
 
 -- the longest such number
 digits : (c : tie.Start) → length (decimal c.args.n) ≤ 3
-digits c = decimal-length 2 c.args.n (omega arith)
+digits c = decimal_length 2 c.args.n (omega arith)
 
 within-name-requires : tie.Need-within-name-requires
 within-name-requires c κs = tt
@@ -50,7 +50,7 @@ returns c =
 
 -- where the test found room
 room : (c : tie.Else1) → let w = c.before.before in let a = w.before.before.args in a.at + (w.within-name.result + 3) ≤ length a.out.now
-room c = test-room _ _ _ _ c.before.is-too-short.ensures c.if1.false
+room c = test_room _ _ _ _ c.before.is-too-short.ensures c.if1.false
 
 write-name-requires : tie.Need-write-name-requires
 write-name-requires c κs = (fits c.before.before.before, omega (arith, room c.before))
@@ -63,24 +63,24 @@ write-short-requires c κs =
     let s = w.before.before in
     let a = s.args in (
       omega arith,
-      text-room a.name (size s) a.width w.within-name.result w.within-name.ensures (decimal a.n) 3 (digits s) a.out.now a.at
+      text_room a.name (size s) a.width w.within-name.result w.within-name.ensures (decimal a.n) 3 (digits s) a.out.now a.at
           (room e) _ _ n.write-name.auto.1.1.0 n.write-name.ensures.0,
     )
 
-same-length-2 : tie.Need-same-length-2
-same-length-2 c =
+same_length_2 : tie.Need-same-length-2
+same_length_2 c =
     let d = c.before.before in
     d.write-short.auto.1.0 ∙ d.before.before.before.before.write-name.auto.1.1.0
 
-returns-2 : tie.Need-returns-2
-returns-2 c =
+returns_2 : tie.Need-returns-2
+returns_2 c =
     let d = c.before.before in
     let n = d.before.before.before.before in
     let e = n.before.before in
     let w = e.before.before in
     let s = w.before.before in
     let a = s.args in
-    field-owes a.name (size s) a.width w.within-name.result w.within-name.ensures (decimal a.n) 3 (digits s) a.out.now a.at
+    field_owes a.name (size s) a.width w.within-name.result w.within-name.ensures (decimal a.n) 3 (digits s) a.out.now a.at
     (room e) _ _ _ _ n.write-name.ensures d.write-short.ensures
 
 pub byte-spec : {M : Type 1} → statement M
@@ -95,5 +95,5 @@ byte-spec =
     returns
     write-name-requires
     write-short-requires
-    same-length-2
-    returns-2)
+    same_length_2
+    returns_2)

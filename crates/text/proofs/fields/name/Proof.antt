@@ -6,7 +6,7 @@ use lib.ListN.{length, take}
 use lib.Seq.{length-take-le}
 use mir.Syntax.{w8}
 use borrow.Kind.Array.{e_int, good_length}
-use Rattle.text.proofs.Widths.{within-le, within-is}
+use Rattle.text.proofs.Widths.{within_le, within_is}
 use Rattle.text.proofs.fields.name.Statement.{statement}
 use Rattle.text.proofs.fields.name.Tie as tie
 
@@ -15,7 +15,7 @@ size : (c : tie.Start) → length c.args.t1 ≡ 16
 size c = good_length (e_int w8) 16 c.args.t1 _ c.well-formed.0
 
 fits : (c : tie.After-within-name) → c.within-name.result ≤ 16
-fits c = omega (arith, c.within-name.ensures, within-le c.before.before.args.width)
+fits c = omega (arith, c.within-name.ensures, within_le c.before.before.args.width)
 
 within-name-requires : tie.Need-within-name-requires
 within-name-requires c κs = tt
@@ -40,7 +40,7 @@ returns c =
     let p = c.before.before in
     let w = p.before.before.before in
     let s = w.before.before in
-    let e = ap (λ (k : ℕ). take k s.args.t1) w.within-name.ensures ∙ within-is s.args.t1 (size s) s.args.width in
+    let e = ap (λ (k : ℕ). take k s.args.t1) w.within-name.ensures ∙ within_is s.args.t1 (size s) s.args.width in
     rw e at p.place.ensures
 
 pub name-spec : {M : Type 1} → statement M

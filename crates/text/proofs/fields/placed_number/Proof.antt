@@ -9,8 +9,8 @@ use mir.Syntax.{w8}
 use borrow.Kind.Array.{e_int, good_length}
 use Rattle.text.specs.Text.{decimal}
 use Rattle.text.specs.Placing.{Put}
-use Rattle.text.proofs.Decimals.{decimal-length}
-use Rattle.text.proofs.Puts.{put-append, front-is}
+use Rattle.text.proofs.Decimals.{decimal_length}
+use Rattle.text.proofs.Puts.{put_append, front_is}
 use Rattle.text.proofs.fields.placed_number.Statement.{statement}
 use Rattle.text.proofs.fields.placed_number.Tie as tie
 
@@ -31,7 +31,7 @@ write-decimal-requires : tie.Need-write-decimal-requires
 write-decimal-requires c κs =
     let w = c.before.before in
     let s = w.before.before.before in
-    omega (arith, taken s, w.write-name.ensures.0, w.write-name.auto.1.1.0, decimal-length 19 s.args.n (omega arith))
+    omega (arith, taken s, w.write-name.ensures.0, w.write-name.auto.1.1.0, decimal_length 19 s.args.n (omega arith))
 
 -- the whole text stands at the front
 whole : (c : tie.After-write-decimal) → let a = c.before.before.before.before.before.before.args in
@@ -39,14 +39,14 @@ whole : (c : tie.After-write-decimal) → let a = c.before.before.before.before.
 whole c =
     let w = c.before.before.before in
     let a = w.before.before.before.args in
-    put-append (replicate 36 0) _ _ 0 _ _ (take a.width a.name) (decimal a.n) (omega arith) w.write-name.ensures c.write-decimal.ensures
+    put_append (replicate 36 0) _ _ 0 _ _ (take a.width a.name) (decimal a.n) (omega arith) w.write-name.ensures c.write-decimal.ensures
 
 array-share-prefix-line : tie.Need-array-share-prefix-line
 array-share-prefix-line c =
     let d = c.before in
     let w = d.before.before.before in
     let s = w.before.before.before in
-    omega (arith, taken s, d.write-decimal.ensures.0, w.write-name.ensures.0, d.write-decimal.auto.1.0, w.write-name.auto.1.1.0, decimal-length 19 s.args.n (omega arith))
+    omega (arith, taken s, d.write-decimal.ensures.0, w.write-name.ensures.0, d.write-decimal.auto.1.0, w.write-name.auto.1.1.0, decimal_length 19 s.args.n (omega arith))
 
 slice-aggregate-place : tie.Need-slice-aggregate-place
 slice-aggregate-place c = sym (length-take-le _ _ (array-share-prefix-line c.before))
@@ -61,7 +61,7 @@ returns : tie.Need-returns
 returns c =
     let p = c.before.before in
     let d = p.before.before.before.before in
-    let e = front-is (replicate 36 0) _ _ _ (whole d) in
+    let e = front_is (replicate 36 0) _ _ _ (whole d) in
     rw e at p.place.ensures
 
 pub placed-number-spec : {M : Type 1} → statement M

@@ -8,8 +8,8 @@ use Rattle.text.proofs.fields.within_name.Tie as tie
 returns : tie.Need-returns
 returns c = ap (λ (t : Bool). cond t c.before.args.width 16) (sym (lt-ltb _ 16 c.if1.true))
 
-returns-2 : tie.Need-returns-2
-returns-2 c = ap (λ (t : Bool). cond t c.before.args.width 16) (sym (le-ltb _ 16 c.if1.false))
+returns_2 : tie.Need-returns-2
+returns_2 c = ap (λ (t : Bool). cond t c.before.args.width 16) (sym (le-ltb _ 16 c.if1.false))
 
 pub within-name-spec : {M : Type 1} → statement M
-within-name-spec = tie.close (tie.spec returns returns-2)
+within-name-spec = tie.close (tie.spec returns returns_2)

@@ -42,8 +42,8 @@ cast-result-2 c =
     let n = not_negative s.args.x s.ranges.x t in
     simp (to_z-of_z w64 _ s.ranges.x) (n.0, record { fits = omega (arith, n.1) })
 
-returns-2 : tie.Need-returns-2
-returns-2 c = simp (to_z-of_z w64 _ c.before.ranges.x)
+returns_2 : tie.Need-returns-2
+returns_2 c = simp (to_z-of_z w64 _ c.before.ranges.x)
 
 pub absolute-spec : {M : Type 1} → statement M
-absolute-spec = tie.close (tie.spec sub-result cast-result add-result returns cast-result-2 returns-2)
+absolute-spec = tie.close (tie.spec sub-result cast-result add-result returns cast-result-2 returns_2)

@@ -1,7 +1,7 @@
 -- `text::signs::signed` meets its contract: the sign is the name before the digits. Assumes nothing.
 use mir.Syntax.{w64}
 use mir.ValLaws.{to_z-of_z}
-use Rattle.text.proofs.Sizes.{sign-is}
+use Rattle.text.proofs.Sizes.{sign_is}
 use Rattle.text.proofs.signs.signed.Statement.{statement}
 use Rattle.text.proofs.signs.signed.Tie as tie
 
@@ -22,7 +22,7 @@ returns c =
     let d = c.before.before in
     let z = d.before.before in
     let s = z.before.before in
-    rw (z.absolute.ensures, to_z-of_z w64 s.args.x s.ranges.x, sign-is s.args.x _) at d.number.ensures
+    rw (z.absolute.ensures, to_z-of_z w64 s.args.x s.ranges.x, sign_is s.args.x _) at d.number.ensures
 
 pub signed-spec : {M : Type 1} → statement M
 signed-spec = tie.close (tie.spec cast-number absolute-requires number-requires same_length returns)

@@ -1,8 +1,8 @@
 -- `to_session::files::write_file` meets its contract: the writer's answer says where the file ends, or which number is told. Assumes nothing.
 use native.Mathlib.Omega.{arith}
-use Rattle.text.proofs.Additions.{line-added}
-use Rattle.value_lines.specs.Lines.{refusalLine}
-use Rattle.to_session.proofs.Answers.{text-owes, refusal-owes}
+use Rattle.text.proofs.Additions.{line_added}
+use Rattle.value_lines.specs.Lines.{refusal_line}
+use Rattle.to_session.proofs.Answers.{text_owes, refusal_owes}
 use Rattle.to_session.proofs.files.write_file.Statement.{statement}
 use Rattle.to_session.proofs.files.write_file.Tie as tie
 
@@ -32,24 +32,24 @@ returns c =
     let w = c.before.before.before.before.before in
     let s = w.before.before.before.before.before.before in
     let a = s.args in
-    text-owes a.input.now a.size s.requires.0.0 a.file.now s.requires.1.0 _ _ w.write.ensures _ c.before.answer.given.1 a.message.now
+    text_owes a.input.now a.size s.requires.0.0 a.file.now s.requires.1.0 _ _ w.write.ensures _ c.before.answer.given.1 a.message.now
 
-same-length-2 : tie.Need-same-length-2
-same-length-2 c = omega arith
+same_length_2 : tie.Need-same-length-2
+same_length_2 c = omega arith
 
 same-length-3 : tie.Need-same-length-3
 same-length-3 c = omega arith
 
-returns-2 : tie.Need-returns-2
-returns-2 c =
+returns_2 : tie.Need-returns-2
+returns_2 c =
     let l = c.before.before.before in
     let t = l.before.before.before in
     let w = t.before.before.before.before in
     let s = w.before.before.before.before.before.before in
     let a = s.args in
     let n = t.answer2.given.0.0 in
-    let q = line-added (refusalLine n) a.message.now _ 0 22 _ _ l.refusal-line.ensures c.end_of_lem.ensures (omega (arith, s.requires)) in
-    refusal-owes a.input.now a.size s.requires.0.0 a.file.now s.requires.1.0 _ _ w.write.ensures n t.answer2.given.1 _ _ q.0.1
+    let q = line_added (refusal_line n) a.message.now _ 0 22 _ _ l.refusal-line.ensures c.end_of_lem.ensures (omega (arith, s.requires)) in
+    refusal_owes a.input.now a.size s.requires.0.0 a.file.now s.requires.1.0 _ _ w.write.ensures n t.answer2.given.1 _ _ q.0.1
     (omega (arith, q.1, l.refusal-line.auto.1.0))
 
 pub write-file-spec : {M : Type 1} → statement M
@@ -64,6 +64,6 @@ write-file-spec =
     end-of-requires
     same_length
     returns
-    same-length-2
+    same_length_2
     same-length-3
-    returns-2)
+    returns_2)

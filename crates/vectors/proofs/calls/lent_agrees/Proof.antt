@@ -17,8 +17,8 @@ returns c = tt
 magnitude-row-agrees-requires : tie.Need-magnitude-row-agrees-requires
 magnitude-row-agrees-requires c κs = tt
 
-returns-2 : tie.Need-returns-2
-returns-2 c = tt
+returns_2 : tie.Need-returns-2
+returns_2 c = tt
 
 values-agree-requires : tie.Need-values-agree-requires
 values-agree-requires c κs = tt
@@ -43,7 +43,7 @@ lent-agrees-spec =
     lsf-row-agrees-requires
     returns
     magnitude-row-agrees-requires
-    returns-2
+    returns_2
     values-agree-requires
     returns-3
     text-agrees-requires

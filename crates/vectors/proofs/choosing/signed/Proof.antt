@@ -26,9 +26,9 @@ sub-result-2 c =
     let h : 4294967295 - x < 2 ^ 31 = omega arith in
     rw (to_z_pos w32 (4294967295 - x) h) (below (4294967295 - x) h)
 
-returns-2 : tie.Need-returns-2
-returns-2 c = tt
+returns_2 : tie.Need-returns-2
+returns_2 c = tt
 
 pub signed-spec : {M : Type 1} → statement M
 signed-spec =
-    tie.close (tie.spec cast-result returns sub-result cast-result-2 sub-result-2 returns-2)
+    tie.close (tie.spec cast-result returns sub-result cast-result-2 sub-result-2 returns_2)

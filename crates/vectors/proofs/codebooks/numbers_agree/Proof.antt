@@ -42,8 +42,8 @@ loop-less c = omega arith
 loop-again : tie.Need-loop-preserved invariant-loop decreases-loop
 loop-again c = omega arith
 
-returns-2 : tie.Need-returns-2 invariant-loop decreases-loop
-returns-2 c = tt
+returns_2 : tie.Need-returns-2 invariant-loop decreases-loop
+returns_2 c = tt
 
 pub numbers-agree-spec : {M : Type 1} → statement M
 numbers-agree-spec =
@@ -62,4 +62,4 @@ numbers-agree-spec =
     add-k
     loop-less
     loop-again
-    returns-2)
+    returns_2)

@@ -47,7 +47,7 @@ use Rattle.receiver.specs.declared.Received.{Received}
 use Rattle.receiver.specs.declared.ReceiveAnswer.{ReceiveAnswer}
 use Rattle.records.specs.contracts.Record as rec
 use Rattle.records.proofs.Record.TheLaws as rec-laws
-use Rattle.receiver.proofs.Clauses.{both-known}
+use Rattle.receiver.proofs.Clauses.{both_known}
 use Rattle.receiver.specs.contracts.Received as got
 use Rattle.receiver.proofs.Received.TheLaws as got-laws
 use Rattle.receiver.specs.contracts.ReceiveAnswer as ans
@@ -56,25 +56,25 @@ use Rattle.receiver.specs.contracts.receive_in_place as callee
 use Rattle.receiver.proofs.receive_in_place.Symbol as callee-code
 use Rattle.receiver.proofs.receive_in_place.Symbol.{name as #callee}
 use Rattle.receiver.proofs.receive_in_place.Met as callee-proved
-use Rattle.vectors.proofs.Lent.{rec-val, rec-typed, pair-val, is-pair, lent, Lent, Lender}
+use Rattle.vectors.proofs.Lent.{rec_val, rec_typed, pair_val, is_pair, lent, Lent, Lender}
 use Rattle.vectors.specs.contracts.in_place.in_place as in_place
 use Rattle.vectors.specs.contracts.in_place.in_place.Key.{name as #in-place}
 use Rattle.vectors.proofs.in_place.in_place.Statement as stated
 use Rattle.vectors.proofs.in_place.in_place.Code as code
 
 -- the three parameters: the record, the frame, and the order
-abbrev of-rec : Slot 2
-of-rec = plain (λ _. rec.the_row)
+abbrev of_rec : Slot 2
+of_rec = plain (λ _. rec.the_row)
 
-abbrev of-frame : Slot 2
-of-frame = shr_slice_of (0 ∷ []) tt (plain (λ _. u8))
+abbrev of_frame_lem : Slot 2
+of_frame_lem = shr_slice_of (0 ∷ []) tt (plain (λ _. u8))
 
-abbrev of-order : Slot 2
-of-order = shr_slice_of (1 ∷ []) tt (plain (λ _. u8))
+abbrev of_order : Slot 2
+of_order = shr_slice_of (1 ∷ []) tt (plain (λ _. u8))
 
 -- at the exit nothing is held of any: the record went into the local, and the slices to the call
 abbrev stayed : Stays (in_place.ended).signature.params (in_place.ended).kept
-stayed = (stay_dropped of-rec yes, (stay_dropped of-frame yes, (stay_dropped of-order yes, tt)))
+stayed = (stay_dropped of_rec yes, (stay_dropped of_frame_lem yes, (stay_dropped of_order yes, tt)))
 
 -- the contract of `receive_in_place`
 abbrev Callee : {M : Type 1} {𝓤 : Ura M} (𝓛 : Logic 𝓤) (at_mem : Memory → SProp 𝓤) (run : Routine → Fun 𝓤) → Contract 𝓤
@@ -97,7 +97,7 @@ module _ {M : Type 1} {𝓤 : Ura M} (𝓛 : Logic 𝓤) (at_mem : Memory → SP
   a = (h, (s, (t, tt)))
 
   abbrev at : List Val × (List Val × (List Val × Unit {0}))
-  at = (rec-val h ∷ [], (v ∷ [], (v' ∷ [], tt)))
+  at = (rec_val h ∷ [], (v ∷ [], (v' ∷ [], tt)))
 
   -- what receiving gives
   abbrev found : Received
@@ -115,11 +115,11 @@ module _ {M : Type 1} {𝓤 : Ura M} (𝓛 : Logic 𝓤) (at_mem : Memory → SP
   Held = ‵ (flft κ q) ⊛ ‵ (flft κ' q') ⊛ ‵ ftrue
 
   -- the exit: what came back is what is owed
-  exits : (r : Received) (u w : Val) → r ≡ found → Is got.the_row r (pair-val u w ∷ []) → ent 𝓤 (⋆ 𝓛 (Held ∷ [])) (Post (pair-val u w))
+  exits : (r : Received) (u w : Val) → r ≡ found → Is got.the_row r (pair_val u w ∷ []) → ent 𝓤 (⋆ 𝓛 (Held ∷ [])) (Post (pair_val u w))
   exits r u w e is =
       qed 𝓛 (Held ∷ []) ∵
       suffices ! _ (ends_at 𝓛 in_place.ended stayed (in_place.clauses 𝓛 at_mem run) (((κ, (κ', tt)), (q, (q', tt)), tt, a, at), tt)
-      (pair-val u w) r (tt, (tt, (tt, tt))) (tt, (tt, (tt, tt)))) $ says ! e $ frame ! $
+      (pair_val u w) r (tt, (tt, (tt, tt))) (tt, (tt, (tt, tt)))) $ says ! e $ frame ! $
       owned ! got.the_row (Is got.the_row) (structs.makes got.the_type got-laws.the_plain 𝓛) r _ is $
       nothing ! $ nothing ! $ nothing ! $ fjoin3 ! $ nothing ! $ fjoin ! $ done !
 
@@ -147,21 +147,21 @@ module _ {M : Type 1} {𝓤 : Ura M} (𝓛 : Logic 𝓤) (at_mem : Memory → SP
 
   module _ (C : Calls 𝓤 H) (Λ : Loops 𝓤 H) (fm : FmC 𝓤 H 𝓛.laws C) (known : Triple 𝓤 (C #callee) (Callee 𝓛 at_mem run)) where
     -- the walk itself; a comment in brackets lists what is held at that point, from number 0 on
-    walk : Is rec.the_row h (rec-val h ∷ []) → Is (ShrSlice (named 0) κ u8) s (v ∷ []) → Is (ShrSlice (named 1) κ' u8) t (v' ∷ [])
-        → ent 𝓤 (on_entry 𝓛 in_place.signature (κ, (κ', tt)) (q, (q', tt)) a at) (WpFn 𝓤 H C Λ code.function (rec-val h ∷ v ∷ v' ∷ []) Post)
+    walk : Is rec.the_row h (rec_val h ∷ []) → Is (ShrSlice (named 0) κ u8) s (v ∷ []) → Is (ShrSlice (named 1) κ' u8) t (v' ∷ [])
+        → ent 𝓤 (on_entry 𝓛 in_place.signature (κ, (κ', tt)) (q, (q', tt)) a at) (WpFn 𝓤 H C Λ code.function (rec_val h ∷ v ∷ v' ∷ []) Post)
     walk is-h is-s is-t =
         -- a cell for each local: the result, the parameters, the record that is lent, the answer, the reference, and the copy of the record
         qed 𝓛 (Held ∷ ‵ (owns (rec.the_row ∷ ShrSlice (named 0) κ u8 ∷ ShrSlice (named 1) κ' u8 ∷ []) a at) ∷ []) ∵
-        enter ! C Λ code.function (rec-val h ∷ v ∷ v' ∷ []) _ $
+        enter ! C Λ code.function (rec_val h ∷ v ∷ v' ∷ []) _ $
         alloc1 ! (λ l₀. alloc1 ! (λ l₁. alloc1 ! (λ l₂. alloc1 ! (λ l₃. alloc1 ! (λ l₄. alloc1 ! (λ l₅. alloc1 ! (λ l₆. alloc1 ! (λ l₇. alloc0 ! $ params1 ! $
-        pass1 ! (init ! 12 refl (rec-typed 𝓛 h _ is-h)) $ pass1 ! (init ! 10 refl ((shr_slice_Lawful 𝓛 (named 0) κ u8).typed s (v ∷ []) is-s).0) $
+        pass1 ! (init ! 12 refl (rec_typed 𝓛 h _ is-h)) $ pass1 ! (init ! 10 refl ((shr_slice_Lawful 𝓛 (named 0) κ u8).typed s (v ∷ []) is-s).0) $
         pass1 ! (init ! 8 refl ((shr_slice_Lawful 𝓛 (named 1) κ' u8).typed t (v' ∷ []) is-t).0) $ pass0 ! $
         -- the record is copied into _4, and _6 is its address
-        assigns ! (of_opd ! (load ! (from ! (stop !)) (look ! 12 refl))) (from ! (stop !)) (init ! 6 refl (rec-typed 𝓛 h _ is-h)) $
+        assigns ! (of_opd ! (load ! (from ! (stop !)) (look ! 12 refl))) (from ! (stop !)) (init ! 6 refl (rec_typed 𝓛 h _ is-h)) $
         assigns ! (addr ! (from ! (stop !))) (from ! (stop !)) (init ! 2 refl (tt, tt)) $
         -- _4 is lent for a new lifetime
         move ! (17 ∷ []) $ fsplit ! $ move ! (8 ∷ 0 ∷ []) $
-        use2 𝓛 (‵ (part_at rec.the_row full_share h l₄ 0)) (part_in 𝓛 rec.the_row refl full_share h l₄ 0 (rec-val h)) $ lft_new ! tt (λ ν. move ! (1 ∷ []) $
+        use2 𝓛 (‵ (part_at rec.the_row full_share h l₄ 0)) (part_in 𝓛 rec.the_row refl full_share h l₄ 0 (rec_val h)) $ lft_new ! tt (λ ν. move ! (1 ∷ []) $
         use1 𝓛 (later (some (λ (γ : GName). ‵ (Lent h ν l₄ γ) ⊛ ‵ (Lender ν l₄ γ)))) (lends_ref 𝓛 rec.the_row (named 0) (ν ∷ []) h l₄ 0) $
         await ! tt $ pick ! (λ γ. split ! $
         -- [the reference; the lender's part; the new token; the slices; _7; …; _6; …; _5; …; …; _3; …; _2; …; _1; …; _0; …; the slices' tokens]
@@ -172,7 +172,7 @@ module _ {M : Type 1} {𝓤 : Ura M} (𝓛 : Logic 𝓤) (at_mem : Memory → SP
         (and_then ! (load ! (from ! (stop !)) (look ! 9 refl)) (no_more !)))) (λ u.
         use1 𝓛 (later (some (λ (x : ReceiveAnswer). (Tokens ν l₄ γ ⊛ ‵ ((ans.the_row).own_val x (u ∷ []))) ⊛ raw (Ensured ν l₄ γ x)))) (id⊢ 𝓤 _) $ await ! tt $ pick ! (λ x.
         split ! $ move ! (1 ∷ []) $ use1 𝓛 (some (Says ν l₄ γ x)) (id⊢ 𝓤 _) $ pick ! (λ ws. split ! $ move ! (1 ∷ []) $
-        use1 𝓛 (raw (fact 𝓤 ((x ≡ found.answer) × (ws.0 ≡ found.next)))) (both-known 𝓤 (x ≡ found.answer) (ws.0 ≡ found.next)) $ heard ! _ (λ e.
+        use1 𝓛 (raw (fact 𝓤 ((x ≡ found.answer) × (ws.0 ≡ found.next)))) (both_known 𝓤 (x ≡ found.answer) (ws.0 ≡ found.next)) $ heard ! _ (λ e.
         fsplit ! $ move ! (1 ∷ []) $ drop ! $ move ! (1 ∷ []) $ split ! $ split ! $ move ! (2 ∷ []) $
         -- its answer is put into _5
         facts ! ans.the_row (Is ans.the_row) (shows 𝓛 ans.the_row) x (u ∷ []) (λ is-u.
@@ -185,10 +185,10 @@ module _ {M : Type 1} {𝓤 : Ura M} (𝓛 : Logic 𝓤) (at_mem : Memory → SP
         (part_out 𝓛 rec.the_row refl full_share ws.0 l₄ 0) $ pick ! (λ w. split ! $ move ! (1 ∷ []) $
         facts ! rec.the_row (Is rec.the_row) (shows 𝓛 rec.the_row) ws.0 (w ∷ []) (λ is-w.
         let r : Received = record { answer = x; next = ws.0 } in
-        let is : Is got.the_row r (pair-val u w ∷ []) = is-pair r u w is-u is-w in
+        let is : Is got.the_row r (pair_val u w ∷ []) = is_pair r u w is-u is-w in
         -- [_4; the slices' tokens; _7; …; _6; …; _5; …; …; _3; …; _2; …; _1; …; _0; …]
         -- the record is copied into _7, and the result is made of the answer and the copy
-        assigns ! (of_opd ! (load ! (from ! (stop !)) (look ! 0 refl))) (from ! (stop !)) (init ! 2 refl (rec-typed 𝓛 ws.0 _ is-w)) $
+        assigns ! (of_opd ! (load ! (from ! (stop !)) (look ! 0 refl))) (from ! (stop !)) (init ! 2 refl (rec_typed 𝓛 ws.0 _ is-w)) $
         assigns ! (agg ! (and_then ! (load ! (from ! (stop !)) (look ! 6 refl)) (and_then ! (load ! (from ! (stop !)) (look ! 2 refl)) (no_more !)))) (from ! (stop !))
         (init ! 15 refl ((structs.lawful got.the_type got-laws.the_laws 𝓛).typed r _ is).0) $
         -- the result is handed over, and the cells of the locals are given back
@@ -201,9 +201,9 @@ module _ {M : Type 1} {𝓤 : Ura M} (𝓛 : Logic 𝓤) (at_mem : Memory → SP
   -- the walk from any arguments
   open 𝓛 use {H}
 
-  in-place-walks : (C : Calls 𝓤 H) (Λ : Loops 𝓤 H) → FmC 𝓤 H 𝓛.laws C → Triple 𝓤 (C #callee) (Callee 𝓛 at_mem run)
+  in_place_walks : (C : Calls 𝓤 H) (Λ : Loops 𝓤 H) → FmC 𝓤 H 𝓛.laws C → Triple 𝓤 (C #callee) (Callee 𝓛 at_mem run)
       → Walks 𝓛 in_place.ended stayed (WpFn 𝓤 H C Λ code.function) (in_place.clauses 𝓛 at_mem run)
-  in-place-walks C Λ fm known =
+  in_place_walks C Λ fm known =
       walked 𝓛 in_place.ended stayed (in_place.clauses 𝓛 at_mem run) (WpFn 𝓤 H C Λ code.function)
       (λ κs. (structs.vals rec.the_type rec-laws.the_laws, (shr_slice_vals, (shr_slice_vals, tt))))
       (λ κs. (structs.tells rec.the_type rec-laws.the_laws, (shr_slice_Tells (named 0) κs.0 u8, (shr_slice_Tells (named 1) κs.1.0 u8, tt))))
@@ -211,24 +211,24 @@ module _ {M : Type 1} {𝓤 : Ura M} (𝓛 : Logic 𝓤) (at_mem : Memory → SP
       C Λ fm known are.0 are.1.0 are.1.1.0))
 
   -- where `receive_in_place` meets its contract, so does `in_place`
-  in-place-meets : (𝓣 : Tables 𝓤 H) → Triple 𝓤 (𝓣.C #callee) (Callee 𝓛 at_mem run)
+  in_place_meets : (𝓣 : Tables 𝓤 H) → Triple 𝓤 (𝓣.C #callee) (Callee 𝓛 at_mem run)
       → Meets 𝓛 in_place.signature (WpFn 𝓤 H 𝓣.C 𝓣.Λ code.function) (in_place.spec 𝓛 at_mem run)
-  in-place-meets 𝓣 known =
+  in_place_meets 𝓣 known =
       walk_Meets 𝓛 in_place.ended stayed (
-        Goes-dropped 𝓛 2 of-rec yes (λ κs x f. refl),
+        Goes-dropped 𝓛 2 of_rec yes (λ κs x f. refl),
         (
-          Goes-dropped 𝓛 2 of-frame yes (λ κs x f. refl),
-          (Goes-dropped 𝓛 2 of-order yes (λ κs x f. refl), tt),
+          Goes-dropped 𝓛 2 of_frame_lem yes (λ κs x f. refl),
+          (Goes-dropped 𝓛 2 of_order yes (λ κs x f. refl), tt),
         ),
       )
       (in_place.clauses 𝓛 at_mem run) (WpFn 𝓤 H 𝓣.C 𝓣.Λ code.function) (WpFn-mono 𝓤 H 𝓛.laws 𝓣 code.function)
-      (in-place-walks 𝓣.C 𝓣.Λ (fm_of 𝓤 H 𝓛.laws 𝓣) known)
+      (in_place_walks 𝓣.C 𝓣.Λ (fm_of 𝓤 H 𝓛.laws 𝓣) known)
 
-pub in-place-spec : {M : Type 1} → stated.statement M
+pub in_place_spec : {M : Type 1} → stated.statement M
 unfolding code.routine tables_of
-in-place-spec 𝓤 𝓛 𝓜 𝓡 =
+in_place_spec 𝓤 𝓛 𝓜 𝓡 =
     entered 𝓤 𝓛.H (triple_of 𝓛 in_place.signature (in_place.spec 𝓛 𝓜.mem 𝓡.run))
     (tables 𝓤 𝓛.H 𝓜 𝓡 code.env).C (tables 𝓤 𝓛.H 𝓜 𝓡 code.env).Λ #in-place code.function (code.unfolded 𝓤 𝓛.H 𝓜 𝓡)
-    (in-place-meets 𝓛 𝓜.mem 𝓡.run (tables_of 𝓤 𝓛.H 𝓜 (tables 𝓤 𝓛.H 𝓜 𝓡 code.env))
+    (in_place_meets 𝓛 𝓜.mem 𝓡.run (tables_of 𝓤 𝓛.H 𝓜 (tables 𝓤 𝓛.H 𝓜 𝓡 code.env))
     (cited 𝓤 𝓛.H (Callee 𝓛 𝓜.mem 𝓡.run) 𝓜 𝓡 code.env #callee callee-code.routine code.calls-receiver::receive-in-place
     (callee-proved.met 𝓤 𝓛 𝓜 𝓡)))

@@ -27,8 +27,8 @@ pack-requires c κs = tt
 packed-agrees-requires : tie.Need-packed-agrees-requires
 packed-agrees-requires c κs = tt
 
-returns-2 : tie.Need-returns-2
-returns-2 c = tt
+returns_2 : tie.Need-returns-2
+returns_2 c = tt
 
 pub pack-agrees-spec : {M : Type 1} → statement M
 pack-agrees-spec =
@@ -42,4 +42,4 @@ pack-agrees-spec =
     slice-aggregate-pack
     pack-requires
     packed-agrees-requires
-    returns-2)
+    returns_2)

@@ -11,9 +11,9 @@ returns c = tt
 read-at-requires : tie.Need-read-at-requires
 read-at-requires c κs = tt
 
-returns-2 : tie.Need-returns-2
-returns-2 c = tt
+returns_2 : tie.Need-returns-2
+returns_2 c = tt
 
 pub step-at-spec : {M : Type 1} → statement M
 step-at-spec =
-    tie.close (tie.spec parse-at-requires returns read-at-requires returns-2)
+    tie.close (tie.spec parse-at-requires returns read-at-requires returns_2)

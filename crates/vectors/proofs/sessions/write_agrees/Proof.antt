@@ -12,8 +12,8 @@ number-requires-2 c κs = omega arith
 returns : tie.Need-returns
 returns c = tt
 
-returns-2 : tie.Need-returns-2
-returns-2 c = tt
+returns_2 : tie.Need-returns-2
+returns_2 c = tt
 
 large-buffer-requires : tie.Need-large-buffer-requires
 large-buffer-requires c κs = tt
@@ -49,7 +49,7 @@ write-agrees-spec =
     number-requires
     number-requires-2
     returns
-    returns-2
+    returns_2
     large-buffer-requires
     write-frames-requires
     front-requires

@@ -30,8 +30,8 @@ magnitudes-requires c κs = tt
 output-agrees-requires : tie.Need-output-agrees-requires
 output-agrees-requires c κs = tt
 
-returns-2 : tie.Need-returns-2
-returns-2 c = tt
+returns_2 : tie.Need-returns-2
+returns_2 c = tt
 
 pub written-agrees-spec : {M : Type 1} → statement M
 written-agrees-spec =
@@ -46,4 +46,4 @@ written-agrees-spec =
     slice-aggregate-magnitudes
     magnitudes-requires
     output-agrees-requires
-    returns-2)
+    returns_2)
