@@ -2,6 +2,8 @@
 //
 //   sums   what one answer adds to a sum
 //   bytes  a number in eight bytes
+#![tactic(auto)]
+
 mod bytes;
 mod sums;
 

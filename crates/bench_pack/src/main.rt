@@ -2,6 +2,8 @@
 // writes their frames to standard output: at most 5,957 sets. `pack` in an order is measured with it (bench/run.sh).
 //
 //   frames  the frames of an input
+#![tactic(auto)]
+
 mod frames;
 
 // Reads the order and the sets, and writes their frames. Bytes past the 65,581st stay unread.

@@ -8,7 +8,7 @@ use answer_sums::{eight_bytes, of_answer};
 use records::Record;
 
 // The receiver's record, and the sum so far.
-#[derive(Drop)]
+#[derive(Clone, Copy)]
 struct Total {
     rec: Record,
     sum: u64,

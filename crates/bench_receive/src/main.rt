@@ -3,6 +3,8 @@
 // every number of an answer, and no text is made.
 //
 //   frames  the sum over all frames
+#![tactic(auto)]
+
 mod frames;
 
 // Reads the order and the frames, and writes their sum. Bytes past the 65,588th stay unread.

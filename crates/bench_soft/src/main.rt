@@ -3,6 +3,8 @@
 // measured with it (bench/run.sh): the sum needs every number of an answer, and no text is made.
 //
 //   frames  the sum over all frames
+#![tactic(auto)]
+
 mod frames;
 
 // Reads the order and the frames, and writes their sum. Bytes past the 65,568th stay unread.

@@ -3,6 +3,8 @@
 //   rows    a row handed out as a part of the lent codebook, and its refusal
 //   limits  the limits of a codebook's entries
 //   stages  the stages of the LSF codebook
+#![tactic(auto)]
+
 mod limits;
 mod rows;
 mod stages;

@@ -1,11 +1,13 @@
 // A codebook from its text form: one whole number a line.
+#![tactic(auto)]
+
 mod line;
 mod text;
 
 pub use text::{read_lsf, read_magnitudes};
 
 // The answer to a call that reads a codebook from its text.
-#[derive(Drop)]
+#[derive(Clone, Copy)]
 pub enum TextAnswer {
     // The buffer holds the numbers of the text.
     Filled,

@@ -5,6 +5,8 @@
 //   lowering    these lowered again where they run off the top
 //   arithmetic  the sum, the larger and the smaller of two signed numbers
 //   writing     a row into the front of an output
+#![tactic(auto)]
+
 mod arithmetic;
 mod lowering;
 mod raising;
@@ -14,7 +16,7 @@ mod writing;
 pub use values::{lsf_values, magnitudes};
 
 // Values written to the front of the output, or the refusal.
-#[derive(Drop)]
+#[derive(Clone, Copy)]
 pub enum ValuesAnswer {
     Written,
     Refused(u8),

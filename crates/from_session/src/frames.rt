@@ -8,7 +8,7 @@ ghost use Rattle.session_claims.specs.Reading.{reading};
 use session_reader::Answer;
 
 // Where the frames end, and the answer of the reader after them.
-#[derive(Drop)]
+#[derive(Clone, Copy)]
 pub(crate) struct Copied {
     pub(crate) end: usize,
     pub(crate) answer: Answer,

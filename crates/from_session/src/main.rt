@@ -3,6 +3,8 @@
 //
 //   frames    the frames, copied one by one
 //   messages  the line of a refusal
+#![tactic(auto)]
+
 mod frames;
 mod messages;
 

@@ -14,7 +14,7 @@ const REFUSED: Name = *b"refused=........";
 const LINE: Name = *b" line=..........";
 
 // Where the frames end, and the line of a refusal.
-#[derive(Drop)]
+#[derive(Clone, Copy)]
 pub(crate) struct Ends {
     pub(crate) frames: usize,
     pub(crate) message: usize,

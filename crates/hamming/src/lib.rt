@@ -1,4 +1,6 @@
 // The four protected words of an unvoiced frame: parity, syndrome and repair.
+#![tactic(auto)]
+
 mod parity;
 mod repair;
 
@@ -6,7 +8,7 @@ pub use parity::parity_of;
 pub use repair::decode;
 
 // How many bits a word has: eight in A, six in B, seven in C and D.
-#[derive(Drop)]
+#[derive(Clone, Copy)]
 pub enum WordLength {
     Six,
     Seven,
@@ -14,7 +16,7 @@ pub enum WordLength {
 }
 
 // The outcome of a received word, in whatever way its data were chosen.
-#[derive(Drop)]
+#[derive(Clone, Copy)]
 pub enum Decoded {
     // The data as a number, u0 most significant, and how many of the word's bits were repaired.
     Read(u8, u8),

@@ -14,7 +14,7 @@ use text::end_of;
 
 // How far a call is received: the receiver's record, how many frames were repeats, how many bytes of the text are
 // sent, and where the others end in the buffer.
-#[derive(Drop)]
+#[derive(Clone, Copy)]
 pub(crate) struct Progress {
     pub(crate) rec: Record,
     pub(crate) repeats: u64,

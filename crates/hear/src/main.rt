@@ -3,6 +3,8 @@
 //   frames    what the receiver makes of each frame, and its line
 //   printing  the text, sent in large parts
 //   output    the one function that writes, and the count of what is sent
+#![tactic(auto)]
+
 mod frames;
 mod output;
 mod printing;

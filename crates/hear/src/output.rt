@@ -4,7 +4,7 @@ ghost use Rattle.hear.specs.Call.{text};
 
 // How many bytes of the text are sent. The field is private: no other file can make or raise a count, so what is not
 // written is not counted.
-#[derive(Drop)]
+#[derive(Clone, Copy)]
 pub(crate) struct Sent {
     count: usize,
 }

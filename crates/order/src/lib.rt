@@ -4,6 +4,8 @@
 //   place        54 logical bits to seven bytes
 //   taking       seven bytes to 54 logical bits
 //   soft_taking  the same with a confidence for each place
+#![tactic(auto)]
+
 mod list;
 mod place;
 mod soft_taking;
@@ -15,21 +17,21 @@ pub use soft_taking::soft_bits;
 pub use taking::logical_bits;
 
 // The frame of 54 logical bits, and 0; or the refusal, and zeros beside it.
-#[derive(Drop)]
+#[derive(Clone, Copy)]
 pub struct Placed {
     pub refusal: u8,
     pub bytes: [u8; 7],
 }
 
 // The logical bits of a frame in the low 54 bits of a number, bit 0 the most significant; or the refusal.
-#[derive(Drop)]
+#[derive(Clone, Copy)]
 pub enum BitsAnswer {
     Bits(u64),
     Refused(u8),
 }
 
 // The same and the confidence of each logical bit, and 0; or the refusal, and zeros beside it.
-#[derive(Drop)]
+#[derive(Clone, Copy)]
 pub struct SoftBits {
     pub refusal: u8,
     pub bits: u64,

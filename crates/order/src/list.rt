@@ -5,7 +5,7 @@ ghost use Rattle.order.specs.Carrying.{next_place};
 ghost use Rattle.order.specs.Listing.{NamedTo, same_numbers};
 
 // The default order under way: the next logical bit, its place, and the entries so far.
-#[derive(Drop)]
+#[derive(Clone, Copy)]
 struct Numbering {
     bit: usize,
     place: usize,

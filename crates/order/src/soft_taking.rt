@@ -9,7 +9,7 @@ use crate::taking::logical_bits;
 use crate::{BitsAnswer, SoftBits};
 
 // Confidences under way: how many logical bits have theirs, and these.
-#[derive(Drop)]
+#[derive(Clone, Copy)]
 struct Known {
     count: usize,
     found: [u8; 54],

@@ -1,4 +1,6 @@
 // The pitch code of a frame: seven bits that tell unvoiced from voiced and carry the pitch index.
+#![tactic(auto)]
+
 mod class;
 mod code;
 
@@ -6,7 +8,7 @@ pub use class::classify;
 pub use code::encode;
 
 // What a pitch code says of its frame; a voiced one has its pitch index.
-#[derive(Drop)]
+#[derive(Clone, Copy)]
 pub enum PitchClass {
     Unvoiced,
     Erased,
@@ -14,14 +16,14 @@ pub enum PitchClass {
 }
 
 // The class of a code, or the refusal of a number that is no code.
-#[derive(Drop)]
+#[derive(Clone, Copy)]
 pub enum ClassAnswer {
     Class(PitchClass),
     Refused(u8),
 }
 
 // The code of an index, or the refusal of a number that is no index.
-#[derive(Drop)]
+#[derive(Clone, Copy)]
 pub enum CodeAnswer {
     Code(u8),
     Refused(u8),

@@ -3,6 +3,8 @@
 //   choice   from two levels to their codes
 //   levels   the first level of codes in range
 //   uniform  the uniform quantiser by which both codes are chosen
+#![tactic(auto)]
+
 mod choice;
 mod levels;
 mod uniform;
@@ -10,7 +12,7 @@ mod uniform;
 pub use choice::choose;
 
 // The answer to a call for both codes.
-#[derive(Drop)]
+#[derive(Clone, Copy)]
 pub enum CodesAnswer {
     // The codes of the second and of the first level.
     Codes { g2: u8, g1: u8 },

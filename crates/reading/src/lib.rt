@@ -4,6 +4,8 @@
 //   soft_unpacking  the same with a confidence for each bit
 //   parts           parts of the 54 bits
 //   pitch_code      what the pitch code says
+#![tactic(auto)]
+
 mod parts;
 mod pitch_code;
 mod soft_unpacking;
@@ -14,7 +16,7 @@ pub use soft_unpacking::read_soft;
 pub use unpacking::read;
 
 // What a frame's bits are read as: a set with how many bits were repaired, or an erasure.
-#[derive(Drop)]
+#[derive(Clone, Copy)]
 pub enum Reading {
     Accepted(ParameterSet, u8),
     Erased,

@@ -5,6 +5,8 @@
 //   steps           what an accepted frame and a repeat yield
 //   next            the record that they leave
 //   levels          the levels of codes in range
+#![tactic(auto)]
+
 mod levels;
 mod next;
 mod receiving;
@@ -17,7 +19,7 @@ use sets::ParameterSet;
 pub use soft_receiving::{receive_soft, receive_soft_in_place};
 
 // The kind of a result.
-#[derive(Drop)]
+#[derive(Clone, Copy)]
 pub enum Kind {
     Unvoiced,
     Voiced,
@@ -25,7 +27,7 @@ pub enum Kind {
 }
 
 // What a frame yields. The levels are in units of 1/186 dB.
-#[derive(Drop)]
+#[derive(Clone, Copy)]
 pub struct FrameResult {
     pub kind: Kind,
     pub set: ParameterSet,
@@ -37,14 +39,14 @@ pub struct FrameResult {
 }
 
 // A result, or the refusal.
-#[derive(Drop)]
+#[derive(Clone, Copy)]
 pub enum ReceiveAnswer {
     Result(FrameResult),
     Refused(u8),
 }
 
 // The answer and the next record.
-#[derive(Drop)]
+#[derive(Clone, Copy)]
 pub struct Received {
     pub answer: ReceiveAnswer,
     pub next: Record,

@@ -3,6 +3,8 @@
 //   state    the fresh record, and the test of a record
 //   repeats  how many of the latest sixteen frames are repeats, and mute
 //   old      a record without that number, taken over
+#![tactic(auto)]
+
 mod old;
 mod repeats;
 mod state;
@@ -13,14 +15,14 @@ use sets::ParameterSet;
 pub use state::{fresh, is_valid};
 
 // The kind of a frame as the record keeps it: a repeat or not.
-#[derive(Drop)]
+#[derive(Clone, Copy)]
 pub struct FrameKind {
     pub repeat: bool,
 }
 
 // What a receiver keeps: the last accepted set, the last accepted G2, the kinds of the latest sixteen frames, oldest
 // first, and how many of these are repeats.
-#[derive(Drop)]
+#[derive(Clone, Copy)]
 pub struct Record {
     pub last: ParameterSet,
     pub g2: u8,
@@ -29,7 +31,7 @@ pub struct Record {
 }
 
 // What the receivers in service keep: the same without that number.
-#[derive(Drop)]
+#[derive(Clone, Copy)]
 pub struct OldRecord {
     pub last: ParameterSet,
     pub g2: u8,
@@ -37,7 +39,7 @@ pub struct OldRecord {
 }
 
 // An old record taken over: its refusal, 0 or 4, and the record beside it, since an enum cannot hold an array.
-#[derive(Drop)]
+#[derive(Clone, Copy)]
 pub struct TakenOver {
     pub refusal: u8,
     pub next: Record,

@@ -4,6 +4,8 @@
 //   summary  the first and the last line of a call
 //   fields   the parts of a frame's line
 //   parts    one part of a line
+#![tactic(auto)]
+
 mod fields;
 mod frames;
 mod parts;

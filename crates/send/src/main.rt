@@ -2,6 +2,8 @@
 // at most 5,957 sets, which is what 65,536 bytes hold.
 //
 //   frames  the frames of the sets, in the default order
+#![tactic(auto)]
+
 mod frames;
 
 // Reads the sets and writes their frames. Bytes past the 65,536th stay unread.

@@ -4,6 +4,8 @@
 //   header   the three lines before the frames
 //   lines    the lines of frames
 //   hex      bytes in hexadecimal
+#![tactic(auto)]
+
 mod header;
 mod hex;
 mod lines;

@@ -3,7 +3,7 @@ ghost use Rattle.std.specs.Prelude.{◌≡◌, true, ◌+◌, ◌*◌, ◌≤◌
 ghost use Rattle.session_lines.specs.Lines.{line_at, is_hex, hex_value, all_hex, hex_bytes, is_frame_line, frame_of, no_frame, frame_read};
 
 // The refusal of a line, 0 for none, and its frame, seven zeros where it is refused.
-#[derive(Drop)]
+#[derive(Clone, Copy)]
 pub struct FrameLine {
     pub refusal: u8,
     pub frame: [u8; 7],

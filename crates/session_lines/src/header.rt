@@ -8,7 +8,7 @@ use crate::bytes::has_bytes;
 
 // The refusal of the lines, 0 for none, and the bad one; how many frames follow, and where the first one's line starts, both
 // 0 where a line is bad.
-#[derive(Drop)]
+#[derive(Clone, Copy)]
 pub struct Header {
     pub refusal: u8,
     pub line: u16,
@@ -17,7 +17,7 @@ pub struct Header {
 }
 
 // A number in a text, and the offset where it ends.
-#[derive(Drop)]
+#[derive(Clone, Copy)]
 struct Count {
     value: usize,
     end: usize,

@@ -3,6 +3,8 @@
 //
 //   reader  a lent text with an offset in it
 //   steps   the parser: what stands at an offset
+#![tactic(auto)]
+
 mod reader;
 mod steps;
 
@@ -10,7 +12,7 @@ pub use reader::{Handed, Reader, read_at};
 pub use steps::parse_at;
 
 // What stands at an offset of a text.
-#[derive(Drop)]
+#[derive(Clone, Copy)]
 pub enum Answer {
     // The line of a frame.
     Frame,
@@ -21,7 +23,7 @@ pub enum Answer {
 }
 
 // One step of reading: the answer, the frame beside `Answer::Frame` and otherwise seven zeros, and the offset after it.
-#[derive(Drop)]
+#[derive(Clone, Copy)]
 pub struct Step {
     pub answer: Answer,
     pub frame: [u8; 7],

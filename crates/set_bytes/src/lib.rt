@@ -3,6 +3,8 @@
 //
 //   reading  the set in bytes
 //   writing  the bytes of a set
+#![tactic(auto)]
+
 mod reading;
 mod writing;
 
@@ -11,7 +13,7 @@ use sets::ParameterSet;
 pub use writing::write;
 
 // The set in bytes, or the refusal of bytes in any other form.
-#[derive(Drop)]
+#[derive(Clone, Copy)]
 pub enum SetAnswer {
     Set(ParameterSet),
     Refused(u8),

@@ -1,10 +1,12 @@
 // Parameter sets and their ranges.
+#![tactic(auto)]
+
 mod range;
 
 pub use range::{indices_of, is_in_range, is_sendable};
 
 // The indices that every set has: four LSF stages, the second gain index and the first gain code.
-#[derive(Drop)]
+#[derive(Clone, Copy)]
 pub struct Indices {
     pub l1: u8,
     pub l2: u8,
@@ -15,7 +17,7 @@ pub struct Indices {
 }
 
 // What a voiced set has besides: pitch index, bandpass bits, Fourier index and aperiodic flag.
-#[derive(Drop)]
+#[derive(Clone, Copy)]
 pub struct Voicing {
     pub pitch: u8,
     pub bandpass: u8,
@@ -24,7 +26,7 @@ pub struct Voicing {
 }
 
 // A parameter set, unvoiced or voiced.
-#[derive(Drop)]
+#[derive(Clone, Copy)]
 pub enum ParameterSet {
     Unvoiced(Indices),
     Voiced(Indices, Voicing),

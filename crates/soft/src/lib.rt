@@ -2,6 +2,8 @@
 //
 //   choice  the call: the cheapest code word
 //   prices  what each code word costs
+#![tactic(auto)]
+
 mod choice;
 mod prices;
 

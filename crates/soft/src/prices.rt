@@ -9,7 +9,7 @@ ghost use Rattle.soft.specs.Prices.{price, SumsOf, entry_price, EntryFits, price
 use hamming::{WordLength, parity_of};
 
 // What came of a word, and how many code words it has.
-#[derive(Drop)]
+#[derive(Clone, Copy)]
 struct Came {
     data: u8,
     parity: u8,

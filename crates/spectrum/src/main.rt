@@ -4,6 +4,8 @@
 //   printing  what is printed for the three inputs
 //   values    what a frame and the texts of two codebooks give
 //   lines     that as text
+#![tactic(auto)]
+
 mod lines;
 mod printing;
 mod values;

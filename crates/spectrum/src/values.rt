@@ -8,7 +8,7 @@ use receiver::ReceiveAnswer;
 use sets::ParameterSet;
 
 // Values, or zeros where they are refused, and the number of the refusal, 0 is none.
-#[derive(Drop)]
+#[derive(Clone, Copy)]
 pub(crate) struct Spectrum {
     pub(crate) refusal: u8,
     pub(crate) lsf: [i64; 10],

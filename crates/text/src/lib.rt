@@ -5,6 +5,8 @@
 //   signs    a signed number
 //   decimal  numbers, where there is room
 //   bytes    bytes put one after another
+#![tactic(auto)]
+
 mod bytes;
 mod decimal;
 mod fields;
@@ -18,7 +20,7 @@ pub use signs::signed;
 pub type Name = [u8; 16];
 
 // The answer to a call that writes a text.
-#[derive(Drop)]
+#[derive(Clone, Copy)]
 pub enum LineAnswer {
     // Where the text ends.
     Written(usize),

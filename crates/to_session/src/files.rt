@@ -7,7 +7,7 @@ ghost use Rattle.to_session.specs.Output.{most_input, AllWritten};
 use text::{LineAnswer, end_of};
 
 // Where the file ends, and the line of a refusal.
-#[derive(Drop)]
+#[derive(Clone, Copy)]
 pub(crate) struct Ends {
     pub(crate) file: usize,
     pub(crate) message: usize,

@@ -2,6 +2,8 @@
 // Where they are refused, nothing goes there, and the number of the refusal goes to standard error.
 //
 //   files  the file of the bytes read, and the line of a refusal
+#![tactic(auto)]
+
 mod files;
 
 // Reads the frames and writes both texts. One byte more than 2,000 frames have is enough to refuse; the rest stays unread.

@@ -1,6 +1,8 @@
 // The lines that `spectrum` prints, as bytes in a lent buffer.
 //
 //   lines  the line of a value, and of a refusal
+#![tactic(auto)]
+
 mod lines;
 
 pub use lines::{refusal_line, value_line};

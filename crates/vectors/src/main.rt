@@ -23,6 +23,8 @@
 //   session_texts  the frames and lines of session files, by the rule
 //   sessions       reading and writing session files
 //   digits         digits of numbers
+#![tactic(auto)]
+
 mod calls;
 mod choosing;
 mod codebooks;

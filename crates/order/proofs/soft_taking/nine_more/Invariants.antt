@@ -1,0 +1,16 @@
+-- `order::soft_taking::nine_more` meets its contract: after i turns i more are known. Assumes nothing.
+use mathlib.Core.Path.{◌≡◌, refl, subst}
+use Prim.Native.Nat.{ℕ, ◌+◌, ◌-◌, ◌≤◌}
+use native.Mathlib.Omega.{arith}
+use lib.ListN.{length}
+use Rattle.order.specs.Order.{default_order}
+use Rattle.order.specs.SoftTaking.{confidence_of, KnownTo}
+use Rattle.order.proofs.SoftTaking.{default_confidence, known_more}
+use Rattle.order.proofs.soft_taking.nine_more.Given as goal
+
+abbrev pub invariant-loop-i : goal.invariant-loop-i
+invariant-loop-i l =
+    (l.i ≤ 9) × (l.count ≤ 45) × (length l.confidences ≡ 54) × KnownTo (confidence_of default_order l.confidences) (l.count + l.i) l.found
+
+abbrev pub decreases-loop-i : goal.decreases-loop-i
+decreases-loop-i l = 9 - l.i

@@ -1,0 +1,32 @@
+-- `text::bytes::append` meets its contract: after i turns the first i bytes stand at their place. Assumes nothing.
+use mathlib.Core.Path.{◌≡◌, refl}
+use Prim.Native.Nat.{◌+◌, ◌-◌, ◌≤◌, ◌<◌}
+use native.Mathlib.Numerals.{add-one}
+use native.Mathlib.Omega.{arith}
+use lib.ListN.{length, length-set}
+use lib.Seq.{paste, paste-zero, paste-suc, take-length}
+use Rattle.text.specs.Placing.{written}
+use Rattle.text.proofs.bytes.append.Goals as goal
+
+pub loop-i-init : goal.loop-i-init
+loop-i-init c = (refl, omega arith, refl, paste-zero c.args.out.now c.args.at c.args.bytes.now)
+
+pub loop-i-preserved : goal.loop-i-preserved
+loop-i-preserved c =
+    let L = c.loop-i in
+    let s = c.args in
+    let h : s.at + L.i < length s.out.now = omega arith in
+    let m : L.i < length s.bytes.now = omega arith in
+    (L.invariant.0, omega arith, simp length-set L.invariant.2, rw (L.invariant.3, add-one) (paste-suc s.out.now s.at s.bytes.now L.i 0 h m))
+
+pub shape_of-out : goal.shape_of-out
+shape_of-out c = c.loop-i.invariant.2
+
+pub returns : goal.returns
+returns c =
+    let L = c.loop-i in
+    let s = c.args in
+    let e : L.i ≡ length s.bytes.now = omega arith in
+    let p : L.out ≡ paste s.out.now s.at s.bytes.now (length s.bytes.now) = rw e at L.invariant.3 in
+    let o : L.out ≡ written s.bytes.now s.at s.out.now = rw (take-length s.bytes.now) at p in
+    (refl, o)

@@ -1,0 +1,51 @@
+-- `text::decimal::write_hundreds` meets its contract: two digits after one or two. Assumes nothing.
+use mathlib.Core.Path.{◌∙◌}
+use native.Mathlib.Omega.{arith}
+use Rattle.text.proofs.Pairs.{decimal_length_more, decimal_put, pair_is, pair_length}
+use Rattle.text.proofs.decimal.write_hundreds.Goals as goal
+
+pub write_small-end-requires : goal.write_small-end-requires
+write_small-end-requires c =
+    let s = c in
+    (omega arith, omega (arith, decimal_length_more s.args.n s.requires.0))
+
+pub write_pair-requires : goal.write_pair-requires
+write_pair-requires c =
+    let d = c in
+    let s = d in
+    omega (arith, d.write_small-end.ensures.end, decimal_length_more s.args.n s.requires.0)
+
+pub shape_of-out-then-n-lt1000 : goal.shape_of-out-then-n-lt1000
+shape_of-out-then-n-lt1000 c =
+    let w = c in
+    w.write_pair.auto.1.0 ∙ w.write_small-end.auto.1.0
+
+pub returns-then-n-lt1000 : goal.returns-then-n-lt1000
+returns-then-n-lt1000 c =
+    let w = c in
+    let d = w in
+    let s = d in
+    decimal_put s.args.n s.args.out-1.now _ _ s.args.at _ _ s.requires.0 (omega arith) d.write_small-end.ensures w.write_pair.ensures
+
+pub write_pair-end-requires : goal.write_pair-end-requires
+write_pair-end-requires c =
+    let s = c in
+    omega (arith, decimal_length_more s.args.n s.requires.0, pair_length s.args.n (omega arith) (omega arith))
+
+pub write_pair-requires-2 : goal.write_pair-requires-2
+write_pair-requires-2 c =
+    let d = c in
+    let s = d in
+    omega (arith, d.write_pair-end.ensures.end, decimal_length_more s.args.n s.requires.0, pair_length s.args.n (omega arith) (omega arith))
+
+pub shape_of-out : goal.shape_of-out
+shape_of-out c =
+    let w = c in
+    w.write_pair-2.auto.1.0 ∙ w.write_pair-end.auto.1.0
+
+pub returns : goal.returns
+returns c =
+    let w = c in
+    let d = w in
+    let s = d in
+    decimal_put s.args.n s.args.out-1.now _ _ s.args.at _ _ s.requires.0 (omega arith) (rw (pair_is s.args.n (omega arith) (omega arith)) d.write_pair-end.ensures) w.write_pair-2.ensures
