@@ -26,9 +26,9 @@ returns-then-codebook-rows c = simp (lt-ltb _ _ c.if-rows-k.false, ne_eqb _ _ c.
 pub returns-then-all_between : goal.returns-then-all_between
 returns-then-all_between c =
     let e = c in
-    simp (lt-ltb _ _ e.if-rows-k.false, eq-eqb _ _ e.if-codebook-rows.false, sym (fit c) ∙ c.if-all_between.true)
+    simp (lt-ltb _ _ e.if-rows-k.false, eq-eqb _ _ e.if-codebook-rows.false, sym (fit (goal.at.returns-then-all_between c).After-all_between) ∙ c.if-all_between.true)
 
 pub returns : goal.returns
 returns c =
     let e = c in
-    simp (lt-ltb _ _ e.if-rows-k.false, eq-eqb _ _ e.if-codebook-rows.false, sym (fit c) ∙ c.if-all_between.false)
+    simp (lt-ltb _ _ e.if-rows-k.false, eq-eqb _ _ e.if-codebook-rows.false, sym (fit (goal.at.returns c).After-all_between) ∙ c.if-all_between.false)

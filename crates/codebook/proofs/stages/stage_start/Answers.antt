@@ -8,22 +8,12 @@ use Rattle.codebook.proofs.stages.stage_start.Goals as goal
 
 pub returns-in-2 : goal.returns-in-2
 unfolding stage_start
-returns-in-2 c = (ap stage_start (sym c.in-2.keys1), omega arith)
+returns-in-2 c = record {equal = ap stage_start (sym c.in-2.is); bound = omega arith;}
 
 pub returns-in-3 : goal.returns-in-3
 unfolding stage_start
-returns-in-3 c = (ap stage_start (sym c.in-2.keys2), omega arith)
+returns-in-3 c = record {equal = ap stage_start (sym c.in-3.is); bound = omega arith;}
 
 pub returns-in-4 : goal.returns-in-4
 unfolding stage_start
-returns-in-4 c = (ap stage_start (sym c.in-2.keys3), omega arith)
-
-pub returns-in-0 : goal.returns-in-0
-returns-in-0 c = (sym (start_first _ c.if-stage-lt2.true), omega arith)
-
-pub returns-in_default : goal.returns-in_default
-returns-in_default c =
-    let n = c.in-2.rest in
-    let stage = c.args.stage in
-    let h : 4 < stage = omega (arith, c.if-stage-lt2.false, n.0.0.1, n.0.1, n.1) in
-    (sym (start_past stage h), omega arith)
+returns-in-4 c = record {equal = ap stage_start (sym c.in-4.is); bound = omega arith;}

@@ -29,7 +29,7 @@ entry_is : (c : After-syndrome_of)
 entry_is c =
     let s = c in
     let given = c.syndrome_of.ensures in
-    outcome.entry_is s.args.n (least (goal.at.After-syndrome_of s).Start) (most (goal.at.After-syndrome_of s).Start) s.args.word s.args.fixes s.requires.2 c.syndrome_of.result given.0 given.1
+    outcome.entry_is s.args.n (least (goal.at.After-syndrome_of s).Start) (most (goal.at.After-syndrome_of s).Start) s.args.word s.args.fixes s.requires.2 c.syndrome_of.result given.number given.bound
 
 -- an entry that is no mark is a bit of the word
 inside : (c : Else-fix-eq-STAND)

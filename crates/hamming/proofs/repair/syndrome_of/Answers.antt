@@ -14,6 +14,6 @@ returns c =
     let s = w in
     let weight = w.data_weight-weight.result in
     let u = s.args.word / weight in
-    outcome.syndrome_of s.args.n (rw s.requires (length_least s.args.length)) (rw s.requires (length_most s.args.length)) s.args.word weight
+    let p = outcome.syndrome_of s.args.n (rw s.requires (length_least s.args.length)) (rw s.requires (length_most s.args.length)) s.args.word weight
     c.parity_of.result w.data_weight-weight.ensures.equal
-    (subst (λ (n : ℕ). c.parity_of.result ≡ value (parity_of n (bits (data_bits n) u))) (sym s.requires) c.parity_of.ensures)
+    (subst (λ (n : ℕ). c.parity_of.result ≡ value (parity_of n (bits (data_bits n) u))) (sym s.requires) c.parity_of.ensures) in record {number = p.0; bound = p.1;}

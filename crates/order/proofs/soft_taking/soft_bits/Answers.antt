@@ -41,9 +41,3 @@ returns-in-Refused c =
     let asked = told in
     let a = asked.args in
     c.refused.ensures ∙ frame_owes a.order.now a.frame.now a.confidences.now _ (sym asked.logical_bits.ensures ∙ told.in-Refused.is)
-
-pub returns-else-confidences-ne54 : goal.returns-else-confidences-ne54
-returns-else-confidences-ne54 c =
-    let s = c in
-    ap (λ (l : List ℕ). record { refusal = 0; bits = number s; confidences = l }) c.by_bit.ensures
-    ∙ soft_owes (order s) (frame s) (confidences s) (number s) (taken s) c.if-confidences-ne54.false

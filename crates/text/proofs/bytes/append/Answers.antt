@@ -19,9 +19,6 @@ loop-i-preserved c =
     let m : L.i < length s.bytes.now = omega arith in
     (L.invariant.0, omega arith, simp length-set L.invariant.2, rw (L.invariant.3, add-one) (paste-suc s.out.now s.at s.bytes.now L.i 0 h m))
 
-pub shape_of-out : goal.shape_of-out
-shape_of-out c = c.loop-i.invariant.2
-
 pub returns : goal.returns
 returns c =
     let L = c.loop-i in
@@ -29,4 +26,4 @@ returns c =
     let e : L.i ≡ length s.bytes.now = omega arith in
     let p : L.out ≡ paste s.out.now s.at s.bytes.now (length s.bytes.now) = rw e at L.invariant.3 in
     let o : L.out ≡ written s.bytes.now s.at s.out.now = rw (take-length s.bytes.now) at p in
-    (refl, o)
+    record {end = refl; text = o;}

@@ -6,15 +6,12 @@ pub returns-then-is_too_short : goal.returns-then-is_too_short
 returns-then-is_too_short c =
     let t = c in
     let s = t.args in
-    short_owes s.text.now s.at s.out-1.now (test_short _ _ _ _ t.is_too_short.ensures c.if-is_too_short.true)
+    let p = short_owes s.text.now s.at s.out.now (test_short _ _ _ _ t.is_too_short.ensures c.if-is_too_short.true) in record {answer = p.0; written = p.1;}
 
 pub append-requires : goal.append-requires
 append-requires c =
     let e = c in
     test_room _ _ _ _ e.is_too_short.ensures e.if-is_too_short.false
-
-pub shape_of-out : goal.shape_of-out
-shape_of-out c = c.append.auto.1.0
 
 pub returns : goal.returns
 returns c =
@@ -22,4 +19,4 @@ returns c =
     let e = w in
     let t = e in
     let s = t.args in
-    room_owes s.text.now s.at s.out-1.now _ _ (test_room _ _ _ _ t.is_too_short.ensures e.if-is_too_short.false) w.append.ensures
+    let p = room_owes s.text.now s.at s.out.now _ _ (test_room _ _ _ _ t.is_too_short.ensures e.if-is_too_short.false) (w.append.ensures.end, w.append.ensures.text) in record {answer = p.0; written = p.1;}

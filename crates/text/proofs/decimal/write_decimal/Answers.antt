@@ -4,11 +4,8 @@ use native.Mathlib.Omega.{arith}
 use Rattle.text.proofs.Pairs.{decimal_length_more, decimal_put}
 use Rattle.text.proofs.decimal.write_decimal.Goals as goal
 
-pub shape_of-out-then-n-lt10000 : goal.shape_of-out-then-n-lt10000
-shape_of-out-then-n-lt10000 c = c.write_short.auto.1.0
-
 pub returns-then-n-lt10000 : goal.returns-then-n-lt10000
-returns-then-n-lt10000 c = c.write_short.ensures
+returns-then-n-lt10000 c = record {end = c.write_short.ensures.end; text = c.write_short.ensures.text;}
 
 pub write_hundreds-end-requires : goal.write_hundreds-end-requires
 write_hundreds-end-requires c =
@@ -21,20 +18,12 @@ write_pair-requires c =
     let s = d in
     omega (arith, d.write_hundreds-end.ensures.end, decimal_length_more s.args.n (omega arith))
 
-pub shape_of-out-then-n-lt1000000 : goal.shape_of-out-then-n-lt1000000
-shape_of-out-then-n-lt1000000 c =
-    let w = c in
-    w.write_pair.auto.1.0 ∙ w.write_hundreds-end.auto.1.0
-
 pub returns-then-n-lt1000000 : goal.returns-then-n-lt1000000
 returns-then-n-lt1000000 c =
     let w = c in
     let d = w in
     let s = d in
-    decimal_put s.args.n s.args.out-1.now _ _ s.args.at _ _ (omega arith) (omega arith) d.write_hundreds-end.ensures w.write_pair.ensures
-
-pub shape_of-out : goal.shape_of-out
-shape_of-out c = c.write_long.auto.1.0
+    let p = decimal_put s.args.n s.args.out.now _ _ s.args.at _ _ (omega arith) (omega arith) (d.write_hundreds-end.ensures.end, d.write_hundreds-end.ensures.text) (w.write_pair.ensures.end, w.write_pair.ensures.text) in record {end = p.0; text = p.1;}
 
 pub returns : goal.returns
-returns c = c.write_long.ensures
+returns c = record {end = c.write_long.ensures.end; text = c.write_long.ensures.text;}

@@ -15,17 +15,12 @@ write_pair-requires c =
     let s = d in
     omega (arith, d.write_small-end.ensures.end, decimal_length_more s.args.n s.requires.0)
 
-pub shape_of-out-then-n-lt1000 : goal.shape_of-out-then-n-lt1000
-shape_of-out-then-n-lt1000 c =
-    let w = c in
-    w.write_pair.auto.1.0 ∙ w.write_small-end.auto.1.0
-
 pub returns-then-n-lt1000 : goal.returns-then-n-lt1000
 returns-then-n-lt1000 c =
     let w = c in
     let d = w in
     let s = d in
-    decimal_put s.args.n s.args.out-1.now _ _ s.args.at _ _ s.requires.0 (omega arith) d.write_small-end.ensures w.write_pair.ensures
+    let p = decimal_put s.args.n s.args.out.now _ _ s.args.at _ _ s.requires.0 (omega arith) (d.write_small-end.ensures.end, d.write_small-end.ensures.text) (w.write_pair.ensures.end, w.write_pair.ensures.text) in record {end = p.0; text = p.1;}
 
 pub write_pair-end-requires : goal.write_pair-end-requires
 write_pair-end-requires c =
@@ -38,14 +33,9 @@ write_pair-requires-2 c =
     let s = d in
     omega (arith, d.write_pair-end.ensures.end, decimal_length_more s.args.n s.requires.0, pair_length s.args.n (omega arith) (omega arith))
 
-pub shape_of-out : goal.shape_of-out
-shape_of-out c =
-    let w = c in
-    w.write_pair-2.auto.1.0 ∙ w.write_pair-end.auto.1.0
-
 pub returns : goal.returns
 returns c =
     let w = c in
     let d = w in
     let s = d in
-    decimal_put s.args.n s.args.out-1.now _ _ s.args.at _ _ s.requires.0 (omega arith) (rw (pair_is s.args.n (omega arith) (omega arith)) d.write_pair-end.ensures) w.write_pair-2.ensures
+    let p = decimal_put s.args.n s.args.out.now _ _ s.args.at _ _ s.requires.0 (omega arith) (rw (pair_is s.args.n (omega arith) (omega arith)) (d.write_pair-end.ensures.end, d.write_pair-end.ensures.text)) (w.write_pair-2.ensures.end, w.write_pair-2.ensures.text) in record {end = p.0; text = p.1;}

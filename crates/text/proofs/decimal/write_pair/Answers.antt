@@ -24,15 +24,10 @@ bounds-out-at-2 c =
     let a = c.args in
     omega (arith, length-set a.out.now a.at (both a.n % 256))
 
-pub shape_of-out : goal.shape_of-out
-shape_of-out c =
-    let a = c.args in
-    length-set (set a.out.now a.at (both a.n % 256)) (a.at + 1) (both a.n / 256) ∙ length-set a.out.now a.at (both a.n % 256)
-
 pub returns : goal.returns
 returns c =
     let a = c.args in
     let first : both a.n % 256 ≡ digit_byte (a.n % 100 / 10) = omega arith in
     let second : both a.n / 256 ≡ digit_byte (a.n % 100 % 10) = omega arith in
     let p = pair_put a.out.now a.at (both a.n % 256) (both a.n / 256) (omega arith) in
-    (p.0, p.1 ∙ (λ i. written (first i ∷ second i ∷ []) a.at a.out.now))
+    record {end = p.0; text = p.1 ∙ (λ i. written (first i ∷ second i ∷ []) a.at a.out.now);}

@@ -17,30 +17,8 @@ bounds-out-at c =
     let p = rw (decimal_one s.args.n (omega arith)) at s.requires.1 in
     omega (arith, p)
 
-pub shape_of-out-then-n-lt10 : goal.shape_of-out-then-n-lt10
-shape_of-out-then-n-lt10 c =
-    let a = c.args in
-    length-set a.out-1.now a.at (digit_byte a.n)
-
-pub returns-then-n-lt10 : goal.returns-then-n-lt10
-returns-then-n-lt10 c =
-    let s = c in
-    let a = s.args in
-    let p = rw (decimal_one a.n (omega arith)) at s.requires.1 in
-    rw (decimal_one a.n (omega arith)) (byte_put a.out-1.now a.at (digit_byte a.n) (omega (arith, p)))
-
 pub write_pair-requires : goal.write_pair-requires
 write_pair-requires c =
     let s = c in
     let p = rw (decimal_two s.args.n (omega arith) s.requires.0) at s.requires.1 in
     omega (arith, p)
-
-pub shape_of-out : goal.shape_of-out
-shape_of-out c = c.write_pair.auto.1.0
-
-pub returns : goal.returns
-returns c =
-    let w = c in
-    let s = w in
-    let e : s.args.n % 100 ≡ s.args.n = omega arith in
-    rw (decimal_two s.args.n (omega arith) s.requires.0) (rw e at w.write_pair.ensures)

@@ -11,28 +11,17 @@ use Rattle.text.proofs.fields.name.Goals as goal
 use Rattle.text.proofs.fields.name.Goals.{After-within_name-end, Start}
 
 -- the name's length, and the width within it
-size : (c : Start) → length c.args.t1 ≡ 16
-size c = good_length (e_int w8) 16 c.args.t1 _ c.well-formed.0
+size : (c : Start) → length c.args.name ≡ 16
+size c = good_length (e_int w8) 16 c.args.name _ c.well_formed.0
 
 fits : (c : After-within_name-end) → c.within_name-end.result ≤ 16
 fits c = omega (arith, c.within_name-end.ensures, within_le c.args.width)
 
 pub slice_bounds-name-end : goal.slice_bounds-name-end
-slice_bounds-name-end c = omega (arith, fits c, size c)
+slice_bounds-name-end c = omega (arith, fits c, size (goal.at.slice_bounds-name-end c).Start)
 
 pub slice_bounds-place-end : goal.slice_bounds-place-end
 slice_bounds-place-end c =
     let w = c in
     let s = w in
-    sym (length-take-le w.within_name-end.result s.args.t1 (omega (arith, fits w, size s)))
-
-pub shape_of-out : goal.shape_of-out
-shape_of-out c = c.place.auto.1.0
-
-pub returns : goal.returns
-returns c =
-    let p = c in
-    let w = p in
-    let s = w in
-    let e = ap (λ (k : ℕ). take k s.args.t1) w.within_name-end.ensures ∙ within_is s.args.t1 (size s) s.args.width in
-    rw e at p.place.ensures
+    sym (length-take-le w.within_name-end.result s.args.name (omega (arith, fits (goal.at.slice_bounds-place-end w).After-within_name-end, size (goal.at.slice_bounds-place-end s).Start)))

@@ -15,54 +15,29 @@ use Rattle.text.proofs.fields.number.Goals.{After-within_name-end, Else-is_too_s
 
 -- the name's length, and the width within it
 size : (c : Start) → length c.args.name ≡ 16
-size c = good_length (e_int w8) 16 c.args.name _ c.well-formed.0
+size c = good_length (e_int w8) 16 c.args.name _ c.well_formed.0
 
 fits : (c : After-within_name-end) → c.within_name-end.result ≤ 16
 fits c =
     let s = c in
-    end_le s.args.name (size s) s.args.width c.within_name-end.result c.within_name-end.ensures
+    end_le s.args.name (size (goal.at.After-within_name-end s).Start) s.args.width c.within_name-end.result c.within_name-end.ensures
 
 -- the longest such number
 digits : (c : Start) → length (decimal c.args.n) ≤ 20
 digits c = decimal_length 19 c.args.n (omega arith)
 
 -- where the test found room
-room : (c : Else-is_too_short) → let w = c in let a = w.args in a.at + (w.within_name-end.result + 20) ≤ length a.out-1.now
+room : (c : Else-is_too_short) → let w = c in let a = w.args in a.at + (w.within_name-end.result + 20) ≤ length a.out.now
 room c = test_room _ _ _ _ c.is_too_short.ensures c.if-is_too_short.false
 
 pub overflow_add-end : goal.overflow_add-end
 overflow_add-end c = omega (arith, fits c)
 
 pub placed_number-requires : goal.placed_number-requires
-placed_number-requires c = fits c
-
-pub shape_of-out-then-is_too_short : goal.shape_of-out-then-is_too_short
-shape_of-out-then-is_too_short c = c.placed_number.auto.1.1.1.0
-
-pub returns-then-is_too_short : goal.returns-then-is_too_short
-returns-then-is_too_short c =
-    let w = c in
-    let s = w in
-    rw (field_is s.args.name (size s) s.args.width w.within_name-end.result w.within_name-end.ensures (decimal s.args.n)) at
-    c.placed_number.ensures
+placed_number-requires c = fits (goal.at.placed_number-requires c).After-within_name-end
 
 pub write_name-digits-requires : goal.write_name-digits-requires
-write_name-digits-requires c = (fits c, omega (arith, room c))
-
-pub write_decimal-requires : goal.write_decimal-requires
-write_decimal-requires c =
-    let n = c in
-    let e = n in
-    let w = e in
-    let s = w in
-    let a = s.args in
-    text_room a.name (size s) a.width w.within_name-end.result w.within_name-end.ensures (decimal a.n) 20 (digits s) a.out-1.now a.at
-    (room e) _ _ n.write_name-digits.auto.1.1.0 n.write_name-digits.ensures.end
-
-pub shape_of-out : goal.shape_of-out
-shape_of-out c =
-    let d = c in
-    d.write_decimal.auto.1.0 ∙ d.write_name-digits.auto.1.1.0
+write_name-digits-requires c = (fits (goal.at.write_name-digits-requires c).After-within_name-end, omega (arith, room (goal.at.write_name-digits-requires c).Else-is_too_short))
 
 pub returns : goal.returns
 returns c =
@@ -72,5 +47,5 @@ returns c =
     let w = e in
     let s = w in
     let a = s.args in
-    field_owes a.name (size s) a.width w.within_name-end.result w.within_name-end.ensures (decimal a.n) 20 (digits s) a.out-1.now a.at
-    (room e) _ _ _ _ n.write_name-digits.ensures d.write_decimal.ensures
+    let p = field_owes a.name (size (goal.at.returns s).Start) a.width w.within_name-end.result w.within_name-end.ensures (decimal a.n) 20 (digits (goal.at.returns s).Start) a.out.now a.at
+    (room (goal.at.returns e).Else-is_too_short) _ _ _ _ (n.write_name-digits.ensures.end, n.write_name-digits.ensures.text) (d.write_decimal.ensures.end, d.write_decimal.ensures.text) in record {answer = p.0; written = p.1;}

@@ -17,9 +17,6 @@ below c =
     let t : lt_z s.args.x (pos 0) ≡ true = simp (to_z-of_z w64 _ s.ranges.x) at c.if-x-lt0.true in
     complement s.args.x s.ranges.x t
 
-pub overflow_sub-result : goal.overflow_sub-result
-overflow_sub-result c = simp (to_z-of_z w64 _ c.ranges.x) (below c).ranges
-
 pub overflow_cast-result : goal.overflow_cast-result
 overflow_cast-result c =
     let b = below c in
