@@ -7,6 +7,10 @@ use Rattle.order.specs.Listing.{named, NamedTo}
 use Rattle.order.proofs.Naming.{named_all}
 use Rattle.order.proofs.list.default_order.Goals as goal
 
+pub loop-numbering-init : goal.loop-numbering-init
+unfolding carried_place named
+loop-numbering-init c = (omega arith, refl, (refl, refl))
+
 pub name_nine-numbering-requires : goal.name_nine-numbering-requires
 name_nine-numbering-requires c = (omega arith, c.loop-numbering.invariant.2)
 

@@ -17,6 +17,11 @@ nine_more-known-requires c = let L = c.loop-known in record {confidences_len = (
 pub loop-known-smaller : goal.loop-known-smaller
 loop-known-smaller c = omega (arith, c.nine_more-known.ensures.counted)
 
+pub loop-known-preserved : goal.loop-known-preserved
+loop-known-preserved c =
+    let e = c.nine_more-known.ensures in
+    (omega (arith, e.counted), omega (arith, e.counted), c.loop-known.invariant.2, e.known)
+
 pub returns : goal.returns
 returns c =
     let L = c.loop-known in

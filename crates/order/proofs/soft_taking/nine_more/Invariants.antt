@@ -10,7 +10,7 @@ use Rattle.order.proofs.soft_taking.nine_more.Given as goal
 
 abbrev pub invariant-loop-i : goal.invariant-loop-i
 invariant-loop-i l =
-    (l.i ≤ 9) × (l.count ≤ 45) × (length l.confidences ≡ 54) × KnownTo (confidence_of default_order l.confidences) (l.count + l.i) l.found
+    (l.i ≤ 9) × (l.before.count ≤ 45) × (length l.confidences ≡ 54) × KnownTo (confidence_of default_order l.confidences) (l.before.count + l.i) l.found
 
 abbrev pub decreases-loop-i : goal.decreases-loop-i
 decreases-loop-i l = 9 - l.i

@@ -7,21 +7,18 @@ use Rattle.order.specs.Taking.{bits_answer}
 use Rattle.order.specs.declared.BitsAnswer.TheVariants.{Bits}
 use Rattle.order.proofs.SoftAnswers.{taken_order, frame_owes, count_owes, soft_owes}
 use Rattle.order.proofs.soft_taking.soft_bits.Goals as goal
-use Rattle.order.proofs.soft_taking.soft_bits.Goals.{In-Bits-2, Start}
+use Rattle.order.proofs.soft_taking.soft_bits.Goals.{In-Bits}
 
 -- bits were taken
-module _ (s : In-Bits-2) where
-  abbrev start : Start
-  start = s
-
+module _ (s : In-Bits) where
   abbrev order : List ℕ
-  order = start.args.order.now
+  order = s.args.order.now
 
   abbrev frame : List ℕ
-  frame = start.args.frame.now
+  frame = s.args.frame.now
 
   abbrev confidences : List ℕ
-  confidences = start.args.confidences.now
+  confidences = s.args.confidences.now
 
   abbrev number : ℕ
   number = s.in-Bits.bits
@@ -30,10 +27,10 @@ module _ (s : In-Bits-2) where
   taken = sym s.logical_bits.ensures ∙ s.in-Bits.is
 
 pub returns-then-confidences-ne54 : goal.returns-then-confidences-ne54
-returns-then-confidences-ne54 c = let s = c in c.refused-then-confidences-ne54.ensures ∙ count_owes (order s) (frame s) (confidences s) (number s) (taken s) c.if-confidences-ne54.true
+returns-then-confidences-ne54 c = let s = c in c.refused-then-confidences-ne54.ensures ∙ count_owes (order (goal.at.returns-then-confidences-ne54 s).In-Bits) (frame (goal.at.returns-then-confidences-ne54 s).In-Bits) (confidences (goal.at.returns-then-confidences-ne54 s).In-Bits) (number (goal.at.returns-then-confidences-ne54 s).In-Bits) (taken (goal.at.returns-then-confidences-ne54 s).In-Bits) c.if-confidences-ne54.true
 
 pub by_bit-requires : goal.by_bit-requires
-by_bit-requires c = let s = c in (c.if-confidences-ne54.false, taken_order (order s) (frame s) (number s) (taken s))
+by_bit-requires c = let s = c in (c.if-confidences-ne54.false, taken_order (order (goal.at.by_bit-requires s).In-Bits) (frame (goal.at.by_bit-requires s).In-Bits) (number (goal.at.by_bit-requires s).In-Bits) (taken (goal.at.by_bit-requires s).In-Bits))
 
 pub returns-in-Refused : goal.returns-in-Refused
 returns-in-Refused c =
@@ -41,3 +38,9 @@ returns-in-Refused c =
     let asked = told in
     let a = asked.args in
     c.refused.ensures ∙ frame_owes a.order.now a.frame.now a.confidences.now _ (sym asked.logical_bits.ensures ∙ told.in-Refused.is)
+
+pub returns-else-confidences-ne54 : goal.returns-else-confidences-ne54
+returns-else-confidences-ne54 c =
+    let s = c in
+    ap (λ (l : List ℕ). record { refusal = 0; bits = number (goal.at.returns-else-confidences-ne54 s).In-Bits; confidences = l }) c.by_bit.ensures
+    ∙ soft_owes (order (goal.at.returns-else-confidences-ne54 s).In-Bits) (frame (goal.at.returns-else-confidences-ne54 s).In-Bits) (confidences (goal.at.returns-else-confidences-ne54 s).In-Bits) (number (goal.at.returns-else-confidences-ne54 s).In-Bits) (taken (goal.at.returns-else-confidences-ne54 s).In-Bits) c.if-confidences-ne54.false
