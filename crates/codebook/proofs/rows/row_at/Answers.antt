@@ -12,4 +12,4 @@ returns c =
     let at = 10 * a.k in
     let b = a.codebook.now in
     let e : at + 10 - at ≡ 10 = omega arith in
-    record {equal = ap (λ (n : ℕ). take n (drop at b)) e; size = ap (λ (n : ℕ). length (take n (drop at b))) e ∙ row_length b a.k c.requires;}
+    record { equal = ap (λ (n : ℕ). take n (drop at b)) e; size = ap (λ (n : ℕ). length (take n (drop at b))) e ∙ row_length b a.k c.requires }

@@ -1,7 +1,6 @@
 -- `codebook::stages::lsf_row_number` meets its contract: the test is whether the stage has the row. Assumes nothing.
 use mathlib.Core.Path.{◌≡◌, sym}
 use mathlib.Core.Bool.{true, false}
-use native.Mathlib.Omega.{arith}
 use lib.Dec.{ltb}
 use borrow.Author.Tests.{lt-ltb, le-ltb}
 use Rattle.codebook.specs.Rows.{stage_rows}
