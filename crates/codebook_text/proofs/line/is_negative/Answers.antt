@@ -7,8 +7,7 @@ use native.Mathlib.Omega.{arith}
 use lib.Dec.{eqb}
 use lib.ListN.{length, get_or}
 use Rattle.codebook_text.specs.Text.{is_negative}
-use Rattle.codebook_text.proofs.line.is_negative.Statement.{statement}
-use Rattle.codebook_text.proofs.line.is_negative.Tie as tie
+use Rattle.codebook_text.proofs.line.is_negative.Goals as goal
 
 -- an empty line has no minus
 empty : (line : List ℕ) → length line ≡ 0 → false ≡ is_negative line
@@ -22,14 +21,8 @@ unfolding is_negative
 first [] ne = absurd (ne refl)
 first (c ∷ cs) ne = refl
 
-returns : tie.Need-returns
-returns c = empty c.before.args.line.now c.if1.true
+pub returns-then-line-eq0 : goal.returns-then-line-eq0
+returns-then-line-eq0 c = empty c.args.line.now c.if-line-eq0.true
 
-shared-slice-read-result : tie.Need-shared-slice-read-result
-shared-slice-read-result c = omega arith
-
-returns_2 : tie.Need-returns-2
-returns_2 c = first c.before.before.args.line.now c.before.if1.false
-
-pub is-negative-spec : {M : Type 1} → statement M
-is-negative-spec = tie.close (tie.spec returns shared-slice-read-result returns_2)
+pub returns : goal.returns
+returns c = first c.args.line.now c.if-line-eq0.false
