@@ -1,6 +1,6 @@
 -- `text::bytes::append` meets its contract: after i turns the first i bytes stand at their place. Assumes nothing.
 use mathlib.Core.Path.{◌≡◌, refl}
-use Prim.Native.Nat.{◌+◌, ◌-◌, ◌≤◌, ◌<◌}
+use Prim.Native.Nat.{◌+◌, ◌<◌}
 use native.Mathlib.Numerals.{add-one}
 use native.Mathlib.Omega.{arith}
 use lib.ListN.{length, length-set}
@@ -26,4 +26,4 @@ returns c =
     let e : L.i ≡ length s.bytes.now = omega arith in
     let p : L.out ≡ paste s.out.now s.at s.bytes.now (length s.bytes.now) = rw e at L.invariant.3 in
     let o : L.out ≡ written s.bytes.now s.at s.out.now = rw (take-length s.bytes.now) at p in
-    record {end = refl; text = o;}
+    record { end = refl; text = o }

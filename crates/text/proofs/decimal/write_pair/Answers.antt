@@ -3,7 +3,7 @@ use mathlib.Core.Path.{◌≡◌, ◌∙◌}
 use mathlib.Core.List.{[], ◌∷◌}
 use Prim.Native.Nat.{ℕ, ◌+◌, ◌*◌, ◌/◌, ◌%◌}
 use native.Mathlib.Omega.{arith}
-use lib.ListN.{set, length-set}
+use lib.ListN.{length-set}
 use Rattle.bits.specs.Ascii.{digit_byte}
 use Rattle.text.specs.Placing.{written}
 use Rattle.text.proofs.Puts.{pair_put}
@@ -30,4 +30,4 @@ returns c =
     let first : both a.n % 256 ≡ digit_byte (a.n % 100 / 10) = omega arith in
     let second : both a.n / 256 ≡ digit_byte (a.n % 100 % 10) = omega arith in
     let p = pair_put a.out.now a.at (both a.n % 256) (both a.n / 256) (omega arith) in
-    record {end = p.0; text = p.1 ∙ (λ i. written (first i ∷ second i ∷ []) a.at a.out.now);}
+    record { end = p.0; text = p.1 ∙ (λ i. written (first i ∷ second i ∷ []) a.at a.out.now) }

@@ -1,5 +1,5 @@
 -- `text::fields::byte` meets its contract: where there is room for three digits there is room for the number. Assumes nothing.
-use mathlib.Core.Path.{◌≡◌, ◌∙◌}
+use mathlib.Core.Path.{◌≡◌}
 use Prim.Native.Nat.{◌+◌, ◌≤◌}
 use native.Mathlib.Omega.{arith}
 use lib.ListN.{length}
@@ -48,4 +48,18 @@ returns c =
     let s = w in
     let a = s.args in
     let p = field_owes a.name (size (goal.at.returns s).Start) a.width w.within_name-end.result w.within_name-end.ensures (decimal a.n) 3 (digits (goal.at.returns s).Start) a.out.now a.at
-    (room (goal.at.returns e).Else-is_too_short) _ _ _ _ (n.write_name-digits.ensures.end, n.write_name-digits.ensures.text) (d.write_short.ensures.end, d.write_short.ensures.text) in record {answer = p.0; written = p.1;}
+    (room (goal.at.returns e).Else-is_too_short) _ _ _ _ (n.write_name-digits.ensures.end, n.write_name-digits.ensures.text) (d.write_short.ensures.end, d.write_short.ensures.text) in record { answer = p.0; written = p.1 }
+
+pub returns-then-is_too_short : goal.returns-then-is_too_short
+returns-then-is_too_short c =
+    let a = c.args in
+    let e = field_is a.name (size (goal.at.returns-then-is_too_short c).Start) a.width c.within_name-end.result c.within_name-end.ensures (decimal a.n) in
+    record { answer = rw e at c.placed_number.ensures.answer; written = rw e at c.placed_number.ensures.written }
+
+pub write_short-requires : goal.write_short-requires
+write_short-requires c =
+    let a = c.args in (
+      omega arith,
+      text_room a.name (size (goal.at.write_short-requires c).Start) a.width c.within_name-end.result c.within_name-end.ensures (decimal a.n) 3 (digits (goal.at.write_short-requires c).Start) a.out.now a.at
+          (room (goal.at.write_short-requires c).Else-is_too_short) _ _ c.write_name-digits.auto.out c.write_name-digits.ensures.end,
+    )

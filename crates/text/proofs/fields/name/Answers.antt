@@ -1,12 +1,12 @@
 -- `text::fields::name` meets its contract: the part of the name up to the width. Assumes nothing.
-use mathlib.Core.Path.{◌≡◌, sym, ap, ◌∙◌}
-use Prim.Native.Nat.{ℕ, ◌≤◌}
+use mathlib.Core.Path.{◌≡◌, sym}
+use Prim.Native.Nat.{◌≤◌}
 use native.Mathlib.Omega.{arith}
-use lib.ListN.{length, take}
+use lib.ListN.{length}
 use lib.Seq.{length-take-le}
 use mir.Syntax.{w8}
 use borrow.Kind.Array.{e_int, good_length}
-use Rattle.text.proofs.Widths.{within_le, within_is}
+use Rattle.text.proofs.Widths.{within_le}
 use Rattle.text.proofs.fields.name.Goals as goal
 use Rattle.text.proofs.fields.name.Goals.{After-within_name-end, Start}
 

@@ -24,4 +24,4 @@ pub append-requires : goal.append-requires
 append-requires c = omega (arith, taken (goal.at.append-requires c).Start)
 
 pub returns : goal.returns
-returns c = record {end = c.append.ensures.end; text = c.append.ensures.text;}
+returns c = record { end = c.append.ensures.end; text = c.append.ensures.text }
