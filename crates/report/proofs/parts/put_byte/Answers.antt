@@ -1,0 +1,16 @@
+-- `report::parts::put_byte` meets its contract: what is owed where there is room. Assumes nothing.
+use mathlib.Core.List.{◌++◌}
+use native.Mathlib.Omega.{arith}
+use lib.ListN.{take}
+use Rattle.text.specs.Text.{decimal}
+use Rattle.text.proofs.Answers.{owed_put}
+use Rattle.text.proofs.Decimals.{decimal_length}
+use Rattle.text.proofs.Parts.{field_le}
+use Rattle.report.proofs.parts.put_byte.Goals as goal
+
+pub returns : goal.returns
+returns c =
+    let d = c in
+    let a = d.args in
+    let p = owed_put (take a.width a.name ++ decimal a.n) a.at a.line.now _ _ _ (d.byte.ensures.answer, d.byte.ensures.written) c.end_of.ensures in
+    record {put = p; bound = field_le a.name a.width (decimal a.n) 3 (decimal_length 2 a.n (omega arith));}

@@ -1,0 +1,11 @@
+-- `report::parts::put_name` meets its contract: what is owed where there is room. Assumes nothing.
+use native.Mathlib.Omega.{arith}
+use lib.ListN.{take, length-take}
+use Rattle.text.proofs.Answers.{owed_put}
+use Rattle.report.proofs.parts.put_name.Goals as goal
+
+pub returns : goal.returns
+returns c =
+    let d = c in
+    let a = d.args in
+    record {put = owed_put (take a.width a.name) a.at a.line.now _ _ _ (d.name.ensures.answer, d.name.ensures.written) c.end_of.ensures; bound = omega (arith, length-take a.width a.name);}
