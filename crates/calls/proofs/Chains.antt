@@ -38,7 +38,7 @@ module _ (ord : List ℕ) {P : PackKind} {R : ReceiveKind} where
   chain_flips r u flips [] h = refl
   chain_flips r u flips (w ∷ ws) h =
       ap₂ (λ (f : ℕ → Bool) (l : List (ℕ → Bool)). f ∷ l) h.1
-      (chain_flips _ _ (λ k. flips (suc k)) ws h.2 ∙ sym (cut_suc flips 0 (length ws)))
+      (chain_flips (receive ord r (got ord w)).next _ (λ k. flips (suc k)) ws h.2 ∙ sym (cut_suc flips 0 (length ws)))
 
   -- its receiving call answered with its result
   pub chain_answers : (r u : Record) (flips : ℕ → ℕ → Bool) (ws : List (Row P R)) → Chain ord r u flips ws
@@ -49,7 +49,7 @@ module _ (ord : List ℕ) {P : PackKind} {R : ReceiveKind} where
       let e = arrived_taken ord k.is_order_lem r k.is_valid w.packing.given w.flips (set_of w) in
       let whole : (receive ord r (got ord w)).answer ≡ Result (result_in (receive ord r (got ord w)).answer) =
       subst⁻¹ (λ (y : Received). y.answer ≡ Result (result_in y.answer)) e (step_answers r _ (read (logical_bit ord (got ord w)))) in
-      ap₂ (λ (a : ReceiveAnswer) (l : List ReceiveAnswer). a ∷ l) (k.answers ∙ whole ∙ ap Result (sym k.result_is)) (chain_answers _ _ _ ws h.2)
+      ap₂ (λ (a : ReceiveAnswer) (l : List ReceiveAnswer). a ∷ l) (k.answers ∙ whole ∙ ap Result (sym k.result_is)) (chain_answers (receive ord r (got ord w)).next _ _ ws h.2)
 
   -- what the clean receiver makes of the frame as sent
   clean_takes : (r u : Record) (w : Row P R) → Known ord r u w → T (valid u)
@@ -77,5 +77,5 @@ module _ (ord : List ℕ) {P : PackKind} {R : ReceiveKind} where
       let state = ap (λ (y : Outcome FrameResult Record). y.state) moved in
       let rest =
       subst⁻¹ (λ (t : Record). map (λ y. y.answer) (outcomes (receive_model receive_kind) t (map (λ x. record { order = ord; frame = sent x.packing }) ws)) ≡ map (λ x. done x.clean) ws)
-      state (chain_clean _ _ _ ws h.2 (clean_valid r u w k v)) in
+      state (chain_clean (receive ord r (got ord w)).next _ _ ws h.2 (clean_valid r u w k v)) in
       λ i. here i ∷ rest i

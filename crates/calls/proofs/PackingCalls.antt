@@ -4,7 +4,7 @@ use mathlib.Core.Path.{◌≡◌, refl, sym, ap, ap₂, ◌∙◌, subst⁻¹}
 use mathlib.Core.Bool.{Bool, not}
 use mathlib.Core.List.{List, [], ◌++◌}
 use Prim.Native.Nat.{ℕ, zero, suc}
-use denote.Ref.{Bor}
+use denote.Ref.{Bor, MutBor}
 use lib.ListN.{length, take, drop}
 use lib.Seq.{take-append_seam}
 use Rattle.order.proofs.Frames.{frame_length}
@@ -20,14 +20,18 @@ use Rattle.calls.specs.CodeCalls.{pack_call, CodePacks}
 abbrev pub slice : List ℕ → Bor (List ℕ)
 slice l = record { ref_ptr = (0, 0); now = l }
 
+-- a list lent to be written
+abbrev pub slice_mut : List ℕ → MutBor (List ℕ)
+slice_mut l = record { ref_ptr = (0, 0); ghost_name = 0; now = l }
+
 -- there is such a call for all arguments
 pub pack_had : (sync : Bool) (x : PackArguments)
     → CodePacks (pack_call x.order x.set sync x.lent (pack_answer x.order x.set sync (length x.lent)) (pack_writes x.order x.set sync x.lent))
 pack_had sync x = record {
   κs = ([], ([], tt));
-  passed = (x.set, (sync, (slice x.order, (slice x.lent, tt))));
+  passed = (x.set, (sync, (slice x.order, (slice_mut x.lent, tt))));
   gave = pack_answer x.order x.set sync (length x.lent);
-  left = (x.set, (sync, (slice x.order, (slice (pack_writes x.order x.set sync x.lent), tt))));
+  left = (x.set, (sync, (slice x.order, (slice_mut (pack_writes x.order x.set sync x.lent), tt))));
   contract = (refl, refl);
   observed = refl;
 }

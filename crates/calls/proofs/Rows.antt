@@ -16,7 +16,7 @@ use Rattle.receiver.specs.declared.Received.{Received}
 use Rattle.receiver.proofs.Results.{result_in}
 use Rattle.receiver.proofs.Refusals.{not_refused_only}
 use Rattle.calls.specs.Model.{PackKind, ReceiveKind}
-use Rattle.calls.specs.Calls.{PackCall, pack_order, set_in, pack_call_refusal, sent, PackStep, PackRun}
+use Rattle.calls.specs.Calls.{PackCall, pack_order, set_in, pack_call_refusal, pack_left, sent, PackStep, PackRun}
 use Rattle.calls.specs.Calls.{ReceiveCall, receive_order, frame_in, receive_call_refusal, ReceiveStep, ReceiveRun, channel}
 use Rattle.calls.specs.Frames.{Row, set_of}
 use Rattle.calls.proofs.Steps.{pack_order_lem, pack_sendable, pack_sent, receive_answer, receive_left}
@@ -104,7 +104,7 @@ module _ (ord : List ℕ) {P : PackKind} {R : ReceiveKind} where
   calls_aligned s r u flips (p ∷ ps) (q ∷ qs) h j e =
       let here : Known r u (row_of u (flips 0) p q) = row_known r u (flips 0) p q h.1 j.1 j.0 (head-eq_of_cons-eq e) in
       let goes_on = subst (λ (y : Record). ReceiveRun (TakesFrame ord) y qs) here.leaves j.2 in
-      let rest = calls_aligned _ _ (receive ord u (frame ord (set_in p) p.given)).next (λ k. flips (suc k)) ps qs h.2 goes_on (tail-eq_of_cons-eq e) in
+      let rest = calls_aligned (pack_left p) _ (receive ord u (frame ord (set_in p) p.given)).next (λ k. flips (suc k)) ps qs h.2 goes_on (tail-eq_of_cons-eq e) in
       record {
         rows = row_of u (flips 0) p q ∷ rest.rows;
         packings = ap (λ (l : List (PackCall P)). p ∷ l) rest.packings;

@@ -49,7 +49,7 @@ pack_all s (x ∷ xs) = pack_one s x ∷ pack_all (pack_left (pack_one s x)) xs
 
 pack_arguments : (s : Bool) (xs : List PackArguments) → map (λ c. c.arguments) (pack_all s xs) ≡ xs
 pack_arguments s [] = refl
-pack_arguments s (x ∷ xs) = ap (λ (l : List PackArguments). x ∷ l) (pack_arguments _ xs)
+pack_arguments s (x ∷ xs) = ap (λ (l : List PackArguments). x ∷ l) (pack_arguments (pack_left (pack_one s x)) xs)
 
 -- what is claimed of the arguments holds of the calls
 every_argument : (Q : PackArguments → Type 0) (ps : List (PackCall pack_kind)) → Every Q (map (λ c. c.arguments) ps) → Every (λ c. Q c.arguments) ps
@@ -73,7 +73,7 @@ module _ (Packs : PackCall pack_kind → Type 0) (packs : (c : PackCall pack_kin
     (receive_had : (way : Way) (r : Record) (x : ReceiveArguments) → Receives way (receive_one r x)) where
   pack_runs : (s : Bool) (xs : List PackArguments) → PackRun Packs s (pack_all s xs)
   pack_runs s [] = tt
-  pack_runs s (x ∷ xs) = (refl, pack_had s x, pack_runs _ xs)
+  pack_runs s (x ∷ xs) = (refl, pack_had s x, pack_runs (pack_left (pack_one s x)) xs)
 
   pub sessions : (ord : List ℕ) (xs : List PackArguments) (flips : ℕ → ℕ → Bool) (script : List (Wish Way)) (start : Record) → T (valid start)
       → Script ord xs script → Had Packs Receives ord xs flips script start

@@ -26,11 +26,11 @@ call_had way r (soft order bytes confidences) = soft_made order r bytes confiden
 
 calls_run : (r : Record) (xs : List (Way × Passed)) → AnyRun r (calls_of r xs)
 calls_run r [] = tt
-calls_run r (x ∷ xs) = (refl, (x.0, call_had x.0 r x.1), calls_run _ xs)
+calls_run r (x ∷ xs) = (refl, (x.0, call_had x.0 r x.1), calls_run (new_call r x.1).next xs)
 
 calls_made : (r : Record) (xs : List (Way × Passed)) → MadeAs xs (calls_of r xs)
 calls_made r [] = tt
-calls_made r (x ∷ xs) = (call_had x.0 r x.1, refl, calls_made _ xs)
+calls_made r (x ∷ xs) = (call_had x.0 r x.1, refl, calls_made (new_call r x.1).next xs)
 
 pub always_had : AlwaysHad
 always_had old xs = record {
