@@ -7,8 +7,7 @@ use Rattle.session_lines.specs.Headers.{bad_header_line, told_unless, header_of}
 use Rattle.session_lines.specs.Scans.{Counted}
 use Rattle.session_lines.proofs.HeaderLines.{frames_is}
 use Rattle.session_lines.proofs.HeaderScans.{scan_first}
-use Rattle.session_lines.proofs.header.read_header.Statement.{statement}
-use Rattle.session_lines.proofs.header.read_header.Tie as tie
+use Rattle.session_lines.proofs.header.read_header.Goals as goal
 
 module _ (text : List ℕ) (bad : ℕ) (is : bad ≡ bad_header_line text) where
   -- what is told by the first bad line
@@ -32,26 +31,20 @@ module _ (text : List ℕ) (bad : ℕ) (is : bad ≡ bad_header_line text) where
       ∙ ap (λ (k : ℕ). told_unless k text) (sym z)
       ∙ by_bad
 
-count-in-requires : tie.Need-count-in-requires
-count-in-requires c κs = tt
+pub bad_line-bad-requires : goal.bad_line-bad-requires
+bad_line-bad-requires c = c.count_in-count.ensures.equal
 
-bad-line-requires : tie.Need-bad-line-requires
-bad-line-requires c κs = c.count-in.ensures.0
+pub returns-then-bad-ne0 : goal.returns-then-bad-ne0
+returns-then-bad-ne0 c =
+    let b = c in
+    refused b.args.text.now b.bad_line-bad.result b.bad_line-bad.ensures c.if-bad-ne0.true
 
-returns : tie.Need-returns
+pub overflow_add-result : goal.overflow_add-result
+overflow_add-result c = omega (arith, c.count_in-count.ensures.bound)
+
+pub returns : goal.returns
 returns c =
-    let b = c.before in
-    refused b.before.before.before.args.text.now b.bad-line.result b.bad-line.ensures c.if1.true
-
-add-t5 : tie.Need-overflow-add-t5
-add-t5 c = omega (arith, c.before.before.before.count-in.ensures.1)
-
-returns_2 : tie.Need-returns-2
-returns_2 c =
-    let b = c.before.before in
-    let n = b.before in
-    let count = n.count-in.result in
-    told n.before.before.args.text.now b.bad-line.result b.bad-line.ensures count.value count.end n.count-in.ensures.0 c.before.if1.false
-
-pub read-header-spec : {M : Type 1} → statement M
-read-header-spec = tie.close (tie.spec count-in-requires bad-line-requires returns add-t5 returns_2)
+    let b = c in
+    let n = b in
+    let count = n.count_in-count.result in
+    told n.args.text.now b.bad_line-bad.result b.bad_line-bad.ensures count.value count.end n.count_in-count.ensures.equal c.if-bad-ne0.false
