@@ -7,7 +7,7 @@ use Rattle.session_reader.specs.declared.Answer.TheVariants.{Frame}
 use Rattle.session_reader.specs.declared.reader.Reader.{Reader}
 use Rattle.session_reader.specs.declared.reader.Handed.{Handed}
 
--- calls of `Reader::next`, each on the reader that the one before it handed back; the equation is the contract's (`session_reader:Says.next-says`)
+-- calls of `Reader::next`, each on the reader that the one before it handed back; the equation is the contract's (`session_reader:Says.next_says`)
 abbrev pub NextCalls : Reader → List Handed → Type 0
 NextCalls r [] = Unit
 NextCalls r (h ∷ hs) = (h ≡ handed r) × NextCalls h.rest hs

@@ -1,5 +1,4 @@
--- What the clauses of `Reader::new` and `Reader::next` say. Both are proved by hand, so that there is no reading of their contracts: each clause
--- is equated with its statement by `refl`. Assumes nothing.
+-- What the clauses of `Reader::new` and `Reader::next` say: each clause is equated with its statement by `refl`. Assumes nothing.
 use mathlib.Core.Path.{◌≡◌, refl}
 use seplogic.Ra.Ura.{Ura}
 use prog.Memory.{Memory}
