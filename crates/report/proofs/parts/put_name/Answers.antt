@@ -6,6 +6,5 @@ use Rattle.report.proofs.parts.put_name.Goals as goal
 
 pub returns : goal.returns
 returns c =
-    let d = c in
-    let a = d.args in
-    record {put = owed_put (take a.width a.name) a.at a.line.now _ _ _ (d.name.ensures.answer, d.name.ensures.written) c.end_of.ensures; bound = omega (arith, length-take a.width a.name);}
+    let a = c.args in
+    record { put = owed_put (take a.width a.name) a.at a.line.now _ _ _ (c.name.ensures.answer, c.name.ensures.written) c.end_of.ensures; bound = omega (arith, length-take a.width a.name) }
