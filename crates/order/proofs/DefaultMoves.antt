@@ -6,7 +6,7 @@ use mathlib.Core.List.{List, [], ◌∷◌}
 use Prim.Native.Nat.{ℕ, suc, ◌*◌, ◌-◌, ◌%◌, ◌<◌}
 use native.Mathlib.Omega.{arith}
 use lib.Dec.{lit<}
-use Rattle.bits.specs.Bits.{value, bit, bits, cut, carried}
+use Rattle.bits.specs.Bits.{value, bits, cut, carried}
 use Rattle.bits.proofs.Bitwise.{zero_bit}
 use Rattle.bits.proofs.Cut.{cut_ext, cut_get_or}
 use Rattle.bits.proofs.Digits.{value_bits, bits_at}

@@ -3,7 +3,6 @@ use mathlib.Core.Path.{◌≡◌, sym, ap, ◌∙◌, subst⁻¹}
 use Prim.Native.Nat.{ℕ, ◌/◌, ◌%◌, ◌*◌}
 use native.Mathlib.Nat.{mul-one, div-one}
 use lib.Dec.{lit≤}
-use native.Mathlib.Omega.{arith}
 use Rattle.bits.specs.Bits.{value, bits}
 use Rattle.hamming.specs.Word.{length_of, data_bits, parity, parity_of}
 use Rattle.hamming.specs.declared.WordLength.{WordLength}

@@ -1,10 +1,7 @@
 -- `order::list::default_order` meets its contract: before each turn some nines of bits are named, and after the last all 54. Assumes nothing.
-use mathlib.Core.Path.{◌≡◌, refl, ap, ◌∙◌}
+use mathlib.Core.Path.{◌≡◌}
 use Prim.Native.Nat.{◌-◌, ◌%◌, ◌≤◌}
-use native.Mathlib.Omega.{arith}
-use Rattle.order.specs.Carrying.{carried_place}
-use Rattle.order.specs.Listing.{named, NamedTo}
-use Rattle.order.proofs.Naming.{named_all}
+use Rattle.order.specs.Listing.{NamedTo}
 use Rattle.order.proofs.list.default_order.Given as goal
 
 abbrev pub invariant-loop-numbering : goal.invariant-loop-numbering

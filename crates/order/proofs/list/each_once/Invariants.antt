@@ -1,15 +1,10 @@
 -- `order::list::each_once` meets its contract: what is seen and what is left are the numbers of the list throughout. Assumes nothing.
-use mathlib.Core.Path.{◌≡◌, refl, sym, ap, ◌∙◌}
-use mathlib.Core.Bool.{◌||◌, or-false}
-use mathlib.Core.List.{List, []}
+use mathlib.Core.Path.{◌≡◌}
+use mathlib.Core.Bool.{◌||◌}
 use Prim.Native.Nat.{ℕ, ◌-◌, ◌^◌, ◌≤◌, ◌<◌}
-use native.Mathlib.Omega.{arith}
-use lib.Dec.{lit<}
-use lib.ListN.{length, get_or, drop, drop_of_length-le}
+use lib.ListN.{length, drop}
 use Rattle.bits.specs.Bits.{bit}
-use Rattle.bits.proofs.Bitwise.{zero_bit}
-use Rattle.order.proofs.Orders.{entry_none}
-use Rattle.order.proofs.Seen.{stands, seen_next, seen_lt, seen_order}
+use Rattle.order.proofs.Seen.{stands}
 use Rattle.order.proofs.list.each_once.Given as goal
 
 abbrev pub invariant-loop-t : goal.invariant-loop-t

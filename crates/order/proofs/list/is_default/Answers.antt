@@ -2,11 +2,10 @@
 use mathlib.Core.Path.{◌≡◌, sym, ap, ap₂, ◌∙◌}
 use mathlib.Core.Bool.{◌&&◌, and-true}
 use mathlib.Core.List.{List, []}
-use Prim.Native.Nat.{ℕ, ◌-◌, ◌≤◌}
+use Prim.Native.Nat.{ℕ, ◌≤◌}
 use native.Mathlib.Omega.{arith}
 use lib.Dec.{eqb}
 use lib.ListN.{length, drop, drop_of_length-le}
-use Rattle.order.specs.Order.{default_order}
 use Rattle.order.specs.Listing.{same_numbers}
 use Rattle.order.proofs.Naming.{default_length}
 use Rattle.order.proofs.Differing.{differ_next}

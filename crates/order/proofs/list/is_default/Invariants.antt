@@ -1,15 +1,11 @@
 -- `order::list::is_default` meets its contract: what is compared and what is left are the same where the lists are, throughout. Assumes nothing.
-use mathlib.Core.Path.{◌≡◌, sym, ap, ap₂, ◌∙◌}
-use mathlib.Core.Bool.{◌&&◌, and-true}
-use mathlib.Core.List.{List, []}
-use Prim.Native.Nat.{ℕ, ◌-◌, ◌≤◌}
-use native.Mathlib.Omega.{arith}
+use mathlib.Core.Path.{◌≡◌}
+use mathlib.Core.Bool.{◌&&◌}
+use Prim.Native.Nat.{◌-◌, ◌≤◌}
 use lib.Dec.{eqb}
-use lib.ListN.{length, drop, drop_of_length-le}
+use lib.ListN.{length, drop}
 use Rattle.order.specs.Order.{default_order}
 use Rattle.order.specs.Listing.{same_numbers}
-use Rattle.order.proofs.Naming.{default_length}
-use Rattle.order.proofs.Differing.{differ_next}
 use Rattle.order.proofs.list.is_default.Given as goal
 
 abbrev pub invariant-loop-t : goal.invariant-loop-t

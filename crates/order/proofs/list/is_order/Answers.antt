@@ -1,6 +1,5 @@
 -- `order::list::is_order` meets its contract: a list of another length is none, the default order is one, and any other is tested. Assumes nothing.
 use mathlib.Core.Path.{sym, ◌∙◌}
-use native.Mathlib.Omega.{arith}
 use Rattle.bits.proofs.Tests.{T_true, true_T}
 use Rattle.order.specs.Order.{default_order, is_order}
 use Rattle.order.specs.Listing.{same_numbers}

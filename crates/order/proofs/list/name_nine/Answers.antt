@@ -1,6 +1,6 @@
 -- `order::list::name_nine` meets its contract: after i turns i bits more are named, and the place is carried as far. Assumes nothing.
 use mathlib.Core.Path.{◌≡◌, refl, ◌∙◌, subst}
-use Prim.Native.Nat.{ℕ, suc, ◌+◌, ◌-◌, ◌≤◌}
+use Prim.Native.Nat.{ℕ, suc, ◌+◌}
 use native.Mathlib.Omega.{arith}
 use Rattle.order.specs.Listing.{NamedTo}
 use Rattle.order.proofs.Carrying.{carried_more, carried_lt}
@@ -37,4 +37,4 @@ returns c =
     let L = c.loop-i in
     let from = c.args.from in
     let e : from.bit + L.i ≡ from.bit + 9 = omega arith in
-    record {counted = refl; named = subst (λ (n : ℕ). NamedTo n L.place L.entries) e L.invariant.2;}
+    record { counted = refl; named = subst (λ (n : ℕ). NamedTo n L.place L.entries) e L.invariant.2 }

@@ -1,10 +1,6 @@
 -- `order::list::name_nine` meets its contract: after i turns i bits more are named, and the place is carried as far. Assumes nothing.
-use mathlib.Core.Path.{◌≡◌, refl, ◌∙◌, subst}
-use Prim.Native.Nat.{ℕ, suc, ◌+◌, ◌-◌, ◌≤◌}
-use native.Mathlib.Omega.{arith}
+use Prim.Native.Nat.{◌+◌, ◌-◌, ◌≤◌}
 use Rattle.order.specs.Listing.{NamedTo}
-use Rattle.order.proofs.Carrying.{carried_more, carried_lt}
-use Rattle.order.proofs.Naming.{named_more}
 use Rattle.order.proofs.list.name_nine.Given as goal
 
 abbrev pub invariant-loop-i : goal.invariant-loop-i

@@ -2,7 +2,6 @@
 use mathlib.Core.Path.{sym, ap, ◌∙◌}
 use mathlib.Core.List.{List}
 use Prim.Native.Nat.{ℕ}
-use native.Mathlib.Omega.{arith}
 use Rattle.bits.specs.Bits.{carried}
 use Rattle.bits.proofs.Tests.{T_true, true_T}
 use Rattle.order.specs.Order.{is_order, default_order}

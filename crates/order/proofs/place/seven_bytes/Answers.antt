@@ -3,7 +3,6 @@ use mathlib.Core.Path.{sym, ap, ◌∙◌}
 use mathlib.Core.List.{[], ◌∷◌}
 use Prim.Native.Nat.{ℕ, ◌%◌}
 use native.Mathlib.Nat.{div-one}
-use native.Mathlib.Omega.{arith}
 use Rattle.bits.proofs.Numbers.{carried_part}
 use Rattle.order.proofs.place.seven_bytes.Goals as goal
 

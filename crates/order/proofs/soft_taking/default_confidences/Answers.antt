@@ -1,8 +1,7 @@
 -- `order::soft_taking::default_confidences` meets its contract: before each turn some nines are known, and after the last all 54. Assumes nothing.
 use mathlib.Core.Path.{◌≡◌, refl, subst}
-use Prim.Native.Nat.{ℕ, ◌-◌, ◌%◌, ◌≤◌}
+use Prim.Native.Nat.{ℕ}
 use native.Mathlib.Omega.{arith}
-use lib.ListN.{length}
 use Rattle.order.specs.Order.{default_order}
 use Rattle.order.specs.SoftTaking.{confidence_of, KnownTo}
 use Rattle.order.proofs.SoftTaking.{known_all}
@@ -12,7 +11,7 @@ pub loop-known-init : goal.loop-known-init
 loop-known-init c = (omega arith, refl, c.requires, record { size = refl; known = λ j l. absurd (omega arith) })
 
 pub nine_more-known-requires : goal.nine_more-known-requires
-nine_more-known-requires c = let L = c.loop-known in record {confidences_len = (L.invariant.2, omega arith); known_to = L.invariant.3;}
+nine_more-known-requires c = let L = c.loop-known in record { confidences_len = (L.invariant.2, omega arith); known_to = L.invariant.3 }
 
 pub loop-known-smaller : goal.loop-known-smaller
 loop-known-smaller c = omega (arith, c.nine_more-known.ensures.counted)

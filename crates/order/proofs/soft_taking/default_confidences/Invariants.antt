@@ -1,11 +1,9 @@
 -- `order::soft_taking::default_confidences` meets its contract: before each turn some nines are known, and after the last all 54. Assumes nothing.
-use mathlib.Core.Path.{◌≡◌, refl, subst}
-use Prim.Native.Nat.{ℕ, ◌-◌, ◌%◌, ◌≤◌}
-use native.Mathlib.Omega.{arith}
+use mathlib.Core.Path.{◌≡◌}
+use Prim.Native.Nat.{◌-◌, ◌%◌, ◌≤◌}
 use lib.ListN.{length}
 use Rattle.order.specs.Order.{default_order}
 use Rattle.order.specs.SoftTaking.{confidence_of, KnownTo}
-use Rattle.order.proofs.SoftTaking.{known_all}
 use Rattle.order.proofs.soft_taking.default_confidences.Given as goal
 
 abbrev pub invariant-loop-known : goal.invariant-loop-known

@@ -1,10 +1,10 @@
 -- `order::soft_taking::each_confidence` meets its contract: after t turns the bits of the first t places have their confidences. Assumes nothing.
 use mathlib.Core.Path.{◌≡◌, refl, subst}
-use Prim.Native.Nat.{ℕ, ◌-◌, ◌≤◌, ◌<◌}
+use Prim.Native.Nat.{ℕ, ◌<◌}
 use native.Mathlib.Omega.{arith}
-use lib.ListN.{length, get_or}
+use lib.ListN.{get_or}
 use Rattle.bits.proofs.Tests.{T_true}
-use Rattle.order.specs.Order.{Order, is_order}
+use Rattle.order.specs.Order.{is_order}
 use Rattle.order.proofs.Orders.{is_order_only}
 use Rattle.order.proofs.Places.{entry_lt}
 use Rattle.order.proofs.SoftTaking.{FilledTo, filled_more, filled_all}

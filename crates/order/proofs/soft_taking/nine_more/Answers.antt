@@ -1,8 +1,7 @@
 -- `order::soft_taking::nine_more` meets its contract: after i turns i more are known. Assumes nothing.
 use mathlib.Core.Path.{◌≡◌, refl, subst}
-use Prim.Native.Nat.{ℕ, ◌+◌, ◌-◌, ◌≤◌}
+use Prim.Native.Nat.{ℕ, ◌+◌}
 use native.Mathlib.Omega.{arith}
-use lib.ListN.{length}
 use Rattle.order.specs.Order.{default_order}
 use Rattle.order.specs.SoftTaking.{confidence_of, KnownTo}
 use Rattle.order.proofs.SoftTaking.{default_confidence, known_more}
@@ -33,4 +32,4 @@ returns c =
     let L = c.loop-i in
     let a = c.args in
     let e : a.before.count + L.i ≡ a.before.count + 9 = omega arith in
-    record {counted = refl; known = subst (λ (n : ℕ). KnownTo (confidence_of default_order a.confidences.now) n L.found) e L.invariant.3;}
+    record { counted = refl; known = subst (λ (n : ℕ). KnownTo (confidence_of default_order a.confidences.now) n L.found) e L.invariant.3 }

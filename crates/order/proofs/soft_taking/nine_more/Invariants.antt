@@ -1,11 +1,9 @@
 -- `order::soft_taking::nine_more` meets its contract: after i turns i more are known. Assumes nothing.
-use mathlib.Core.Path.{◌≡◌, refl, subst}
-use Prim.Native.Nat.{ℕ, ◌+◌, ◌-◌, ◌≤◌}
-use native.Mathlib.Omega.{arith}
+use mathlib.Core.Path.{◌≡◌}
+use Prim.Native.Nat.{◌+◌, ◌-◌, ◌≤◌}
 use lib.ListN.{length}
 use Rattle.order.specs.Order.{default_order}
 use Rattle.order.specs.SoftTaking.{confidence_of, KnownTo}
-use Rattle.order.proofs.SoftTaking.{default_confidence, known_more}
 use Rattle.order.proofs.soft_taking.nine_more.Given as goal
 
 abbrev pub invariant-loop-i : goal.invariant-loop-i

@@ -2,7 +2,6 @@
 use mathlib.Core.Path.{◌≡◌, sym, ap, ◌∙◌}
 use mathlib.Core.List.{List}
 use Prim.Native.Nat.{ℕ}
-use native.Mathlib.Omega.{arith}
 use Rattle.order.specs.Taking.{bits_answer}
 use Rattle.order.specs.declared.BitsAnswer.TheVariants.{Bits}
 use Rattle.order.proofs.SoftAnswers.{taken_order, frame_owes, count_owes, soft_owes}

@@ -1,8 +1,8 @@
 -- `order::taking::bytes_from` meets its contract: before each turn the bytes up to the next are joined. Assumes nothing.
 use mathlib.Core.Path.{◌≡◌, sym, ap, ◌∙◌}
-use Prim.Native.Nat.{ℕ, ◌*◌, ◌-◌, ◌≤◌, ◌<◌}
+use Prim.Native.Nat.{ℕ, ◌*◌, ◌-◌, ◌<◌}
 use native.Mathlib.Omega.{arith}
-use lib.ListN.{length, get_or}
+use lib.ListN.{get_or}
 use Rattle.bits.specs.Bits.{value, cut}
 use Rattle.bits.proofs.Numbers.{cut_value_lt}
 use Rattle.order.specs.Order.{bit_at}

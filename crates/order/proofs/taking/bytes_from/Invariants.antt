@@ -1,12 +1,9 @@
 -- `order::taking::bytes_from` meets its contract: before each turn the bytes up to the next are joined. Assumes nothing.
-use mathlib.Core.Path.{◌≡◌, sym, ap, ◌∙◌}
-use Prim.Native.Nat.{ℕ, ◌*◌, ◌-◌, ◌≤◌, ◌<◌}
-use native.Mathlib.Omega.{arith}
-use lib.ListN.{length, get_or}
+use mathlib.Core.Path.{◌≡◌}
+use Prim.Native.Nat.{◌*◌, ◌-◌, ◌≤◌}
+use lib.ListN.{length}
 use Rattle.bits.specs.Bits.{value, cut}
-use Rattle.bits.proofs.Numbers.{cut_value_lt}
 use Rattle.order.specs.Order.{bit_at}
-use Rattle.order.proofs.Answers.{byte_more}
 use Rattle.order.proofs.taking.bytes_from.Given as goal
 
 abbrev pub invariant-loop-i : goal.invariant-loop-i

@@ -1,6 +1,5 @@
 -- `order::taking::default_bits` meets its contract: the padding decides the refusal, and what is gathered are the logical bits. Assumes nothing.
 use mathlib.Core.Path.{ap, ◌∙◌}
-use native.Mathlib.Omega.{arith}
 use Rattle.bits.specs.Bits.{value}
 use Rattle.bits.proofs.Tests.{true_T}
 use Rattle.order.specs.Order.{is_order, default_order}

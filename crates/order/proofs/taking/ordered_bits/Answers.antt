@@ -1,6 +1,5 @@
 -- `order::taking::ordered_bits` meets its contract: the padding decides the refusal, and what is taken are the logical bits. Assumes nothing.
 use mathlib.Core.Path.{ap, ◌∙◌}
-use native.Mathlib.Omega.{arith}
 use Rattle.bits.specs.Bits.{value}
 use Rattle.bits.proofs.Tests.{T_true}
 use Rattle.order.proofs.Orders.{is_order_only}

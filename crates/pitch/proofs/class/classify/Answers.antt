@@ -1,6 +1,5 @@
 -- `pitch::class::classify` meets its contract. Assumes nothing.
 use mathlib.Core.Path.{ap}
-use borrow.Author.Rules.{rules}
 use borrow.Author.Tests.{lt-ltb, le-ltb}
 use Rattle.pitch.specs.Pitch.{class_answer}
 use Rattle.pitch.specs.declared.ClassAnswer.TheVariants.{Class}

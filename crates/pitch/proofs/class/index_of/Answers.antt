@@ -2,7 +2,6 @@
 use mathlib.Core.List.{List, [], ◌∷◌}
 use Prim.Native.Nat.{ℕ}
 use lib.ListN.{get_or}
-use borrow.Author.Rules.{rules}
 use Rattle.bits.proofs.Tests.{equal_at}
 use Rattle.pitch.specs.Pitch.{index}
 use Rattle.pitch.proofs.class.index_of.Goals as goal

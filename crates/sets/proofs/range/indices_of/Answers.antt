@@ -1,6 +1,5 @@
 -- `sets::range::indices_of` meets its contract: each arm hands out the set's own. Assumes nothing.
 use mathlib.Core.Path.{sym, ap}
-use borrow.Author.Rules.{rules}
 use Rattle.sets.specs.Sets.{indices_in}
 use Rattle.sets.proofs.range.indices_of.Goals as goal
 

@@ -1,7 +1,6 @@
 -- `sets::range::is_in_range` meets its contract: each arm has its tests. Assumes nothing.
 use mathlib.Core.Path.{sym, ap, ap₂, ◌∙◌}
 use mathlib.Core.Bool.{Bool, ◌&&◌}
-use borrow.Author.Rules.{rules}
 use Rattle.sets.specs.Sets.{in_range}
 use Rattle.sets.proofs.range.is_in_range.Goals as goal
 
