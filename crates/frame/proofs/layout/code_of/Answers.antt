@@ -1,6 +1,5 @@
 -- `frame::layout::code_of` meets its contract: an index in range is not refused. Assumes nothing.
 use mathlib.Core.Path.{◌≡◌, sym, ap, ◌∙◌}
-use native.Mathlib.Omega.{arith}
 use Rattle.pitch.specs.Pitch.{code_of, code_in}
 use Rattle.pitch.proofs.Answers.{code_in_is}
 use Rattle.frame.proofs.layout.code_of.Goals as goal

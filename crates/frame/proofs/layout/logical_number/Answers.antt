@@ -13,7 +13,6 @@ use Rattle.sets.specs.declared.ParameterSet.{ParameterSet}
 use Rattle.sets.specs.declared.ParameterSet.TheVariants.{Voiced}
 use Rattle.sets.proofs.Ranges.{IndexRanges, VoicingRanges, index_ranges, voicing_ranges, sendable_fits}
 use Rattle.frame.proofs.Numbers.{logical_value}
-use native.Mathlib.Omega.{arith}
 use borrow.Author.Rules.{rules}
 use Rattle.frame.proofs.layout.logical_number.Goals as goal
 use Rattle.frame.proofs.layout.logical_number.Goals.{In-Unvoiced, In-Voiced}
@@ -45,7 +44,7 @@ other_bits-requires c =
 pub voiced_words-requires : goal.voiced_words-requires
 voiced_words-requires c =
     let r = voiced-ranges c in
-    record {l1_bound = (r.0.l1, r.0.g2, r.0.g1); bandpass_bound = (r.1.bandpass, r.1.aperiodic);}
+    record { l1_bound = (r.0.l1, r.0.g2, r.0.g1); bandpass_bound = (r.1.bandpass, r.1.aperiodic) }
 
 pub code_of-requires : goal.code_of-requires
 code_of-requires c = (voiced-ranges (goal.at.code_of-requires c).In-Voiced).1.pitch

@@ -1,9 +1,9 @@
 -- `frame::packing::write_front` meets its contract: after i turns the first i bytes are in front. Assumes nothing.
-use mathlib.Core.Path.{◌≡◌, ap, ◌∙◌}
-use mathlib.Core.List.{List, ◌++◌}
-use Prim.Native.Nat.{ℕ, ◌-◌, ◌≤◌, ◌<◌}
+use mathlib.Core.Path.{ap, ◌∙◌}
+use mathlib.Core.List.{List}
+use Prim.Native.Nat.{ℕ, ◌<◌}
 use native.Mathlib.Omega.{arith}
-use lib.ListN.{length, get_or, take, drop, set}
+use lib.ListN.{length, get_or, set}
 use borrow.Author.Rules.{rules}
 use Rattle.bits.proofs.Front.{front_more, front_all}
 use Rattle.frame.proofs.packing.write_front.Goals as goal

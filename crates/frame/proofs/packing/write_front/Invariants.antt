@@ -1,11 +1,8 @@
 -- `frame::packing::write_front` meets its contract: after i turns the first i bytes are in front. Assumes nothing.
-use mathlib.Core.Path.{◌≡◌, ap, ◌∙◌}
-use mathlib.Core.List.{List, ◌++◌}
-use Prim.Native.Nat.{ℕ, ◌-◌, ◌≤◌, ◌<◌}
-use native.Mathlib.Omega.{arith}
-use lib.ListN.{length, get_or, take, drop, set}
-use borrow.Author.Rules.{rules}
-use Rattle.bits.proofs.Front.{front_more, front_all}
+use mathlib.Core.Path.{◌≡◌}
+use mathlib.Core.List.{◌++◌}
+use Prim.Native.Nat.{◌-◌, ◌≤◌}
+use lib.ListN.{length, take, drop}
 use Rattle.frame.proofs.packing.write_front.Given as goal
 
 abbrev pub invariant-loop-i : goal.invariant-loop-i

@@ -6,7 +6,6 @@ use native.Mathlib.Omega.{arith}
 use lib.IntN.{pos, ◌+ℤ◌}
 use mir.Syntax.{w32}
 use mir.ValLaws.{to_z-of_z}
-use borrow.Author.Rules.{rules}
 use Rattle.gain.specs.Levels.{apart}
 use Rattle.quantiser.specs.Choice.{steady, seven_levels, chosen_g1}
 use Rattle.gain.proofs.FirstLevel.{first_lowest, first_next, first_rises}

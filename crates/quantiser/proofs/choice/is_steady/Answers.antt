@@ -7,7 +7,6 @@ use lib.Dec.{leb}
 use lib.IntN.{pos, ◌+ℤ◌}
 use mir.Syntax.{w32}
 use mir.ValLaws.{to_z-of_z}
-use borrow.Author.Rules.{rules}
 use Rattle.gain.specs.Levels.{apart, mean, first_level}
 use Rattle.quantiser.specs.Choice.{distance}
 use Rattle.quantiser.proofs.RaisedLevels.{apart_raised}

@@ -5,7 +5,6 @@ use native.Mathlib.Omega.{arith}
 use lib.IntN.{pos, ◌+ℤ◌}
 use mir.Syntax.{w32}
 use mir.ValLaws.{to_z-of_z}
-use borrow.Author.Rules.{rules}
 use Rattle.gain.specs.Levels.{level}
 use Rattle.quantiser.proofs.RaisedLevels.{nearest_raised}
 use Rattle.quantiser.proofs.choice.second_code.Goals as goal
@@ -17,4 +16,4 @@ returns c =
     simp (to_z-of_z w32 _ s.ranges.second) at c.raised.ensures.equal in
     let h : (i : ℕ) → 20460 + i * 402 ≡ 18600 + level i = λ i. omega arith in
     let n = nearest_raised s.args.second 18600 c.raised.result e level 20460 402 h 31 in
-    record {equal = c.quantise.ensures.equal ∙ n; bound = c.quantise.ensures.bound;}
+    record { equal = c.quantise.ensures.equal ∙ n; bound = c.quantise.ensures.bound }

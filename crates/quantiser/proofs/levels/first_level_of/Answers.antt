@@ -1,6 +1,5 @@
 -- `quantiser::levels::first_level_of` meets its contract: codes in range are not refused. Assumes nothing.
 use mathlib.Core.Path.{◌≡◌, sym, ap, ◌∙◌}
-use native.Mathlib.Omega.{arith}
 use Rattle.gain.specs.Levels.{first_level, level_in}
 use Rattle.gain.proofs.Answers.{first_level_in_is}
 use Rattle.quantiser.proofs.levels.first_level_of.Goals as goal

@@ -6,7 +6,7 @@ use native.Mathlib.Nat.{suc-mul, mul-le-mul_right}
 use native.Mathlib.Numerals.{add-one}
 use native.Mathlib.Omega.{arith}
 use Rattle.quantiser.specs.Choice.{nearest}
-use Rattle.quantiser.proofs.Thresholds.{index, index_up, index_stays}
+use Rattle.quantiser.proofs.Thresholds.{index_up, index_stays}
 use Rattle.quantiser.proofs.uniform.quantise.Goals as goal
 use Rattle.quantiser.proofs.uniform.quantise.Goals.{In-loop-i}
 
@@ -36,7 +36,7 @@ returns-then-value-level c =
     let at = c.loop-i in
     let e : (a.last - at.i) + at.i ≡ a.last = omega arith in
     let n = index_stays a.base a.step a.value (omega arith) at.i (a.last - at.i) at.invariant.2 (omega arith) in
-    record {equal = sym (rw e at n); bound = omega arith;}
+    record { equal = sym (rw e at n); bound = omega arith }
 
 pub overflow_add-level-in-loop-i : goal.overflow_add-level-in-loop-i
 overflow_add-level-in-loop-i c = omega (arith, room (goal.at.overflow_add-level-in-loop-i c).In-loop-i)
@@ -51,4 +51,4 @@ loop-i-preserved c =
 pub returns : goal.returns
 returns c =
     let e : c.loop-i.i ≡ c.args.last = omega arith in
-    record {equal = sym (rw e at c.loop-i.invariant.2); bound = omega arith;}
+    record { equal = sym (rw e at c.loop-i.invariant.2); bound = omega arith }

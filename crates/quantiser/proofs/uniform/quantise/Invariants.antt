@@ -1,12 +1,8 @@
 -- `quantiser::uniform::quantise` meets its contract: the index reached so far is the nearest of those passed. It goes up above a threshold,
 -- and at or below one no higher index is nearer. Assumes nothing.
-use mathlib.Core.Path.{◌≡◌, sym}
-use Prim.Native.Nat.{ℕ, suc, ◌+◌, ◌-◌, ◌*◌, ◌≤◌, ◌<◌}
-use native.Mathlib.Nat.{suc-mul, mul-le-mul_right}
-use native.Mathlib.Numerals.{add-one}
-use native.Mathlib.Omega.{arith}
-use Rattle.quantiser.specs.Choice.{nearest}
-use Rattle.quantiser.proofs.Thresholds.{index, index_up, index_stays}
+use mathlib.Core.Path.{◌≡◌}
+use Prim.Native.Nat.{◌+◌, ◌-◌, ◌*◌, ◌≤◌}
+use Rattle.quantiser.proofs.Thresholds.{index}
 use Rattle.quantiser.proofs.uniform.quantise.Given as goal
 
 abbrev pub invariant-loop-i : goal.invariant-loop-i

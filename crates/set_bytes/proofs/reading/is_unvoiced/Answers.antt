@@ -1,5 +1,4 @@
 -- `set_bytes::reading::is_unvoiced` meets its contract: it is the five tests. Assumes nothing.
-use borrow.Author.Rules.{rules}
 use Rattle.set_bytes.proofs.Answers.{unvoiced_is}
 use Rattle.set_bytes.proofs.reading.is_unvoiced.Goals as goal
 

@@ -1,6 +1,5 @@
 -- `set_bytes::reading::read` meets its contract: the number of bytes, the first one and the lacking ones decide. Assumes nothing.
 use mathlib.Core.Path.{sym, ap, ap₂, ◌∙◌}
-use borrow.Author.Rules.{rules}
 use Rattle.sets.specs.declared.Indices.{Indices}
 use Rattle.sets.specs.declared.Voicing.{Voicing}
 use Rattle.sets.specs.declared.ParameterSet.TheVariants.{Unvoiced, Voiced}

@@ -1,6 +1,5 @@
 -- `set_bytes::writing::write` meets its contract: each arm has its bytes. Assumes nothing.
 use mathlib.Core.Path.{sym, ap}
-use borrow.Author.Rules.{rules}
 use Rattle.set_bytes.specs.SetBytes.{bytes_of}
 use Rattle.set_bytes.proofs.writing.write.Goals as goal
 

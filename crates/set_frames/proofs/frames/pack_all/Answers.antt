@@ -6,7 +6,7 @@ use native.Mathlib.Numerals.{add-one}
 use native.Mathlib.Omega.{arith}
 use lib.ListN.{length}
 use Rattle.set_frames.specs.Sending.{sets_in, sent_from, sent}
-use Rattle.set_frames.proofs.Turns.{SoFar, last_owes, packed_owes, refused_owes}
+use Rattle.set_frames.proofs.Turns.{last_owes, packed_owes, refused_owes}
 use Rattle.set_frames.proofs.frames.pack_all.Goals as goal
 
 pub loop-k-init : goal.loop-k-init
@@ -26,7 +26,7 @@ returns-in_default c =
     let a = turn.args in
     let le : 7 * L.k ≤ length L.out = omega (arith, L.invariant) in
     let p = refused_owes a.order.now a.bytes.now a.out.now L.sync L.k L.out L.invariant.3 le turn.loop-k-test.true L.invariant.2 _ _
-    (packed.pack_set-answer.ensures.answer, packed.pack_set-answer.ensures.written) _ c.in_default.is in record {end = p.0; size = p.1.0; written = p.1.1;}
+    (packed.pack_set-answer.ensures.answer, packed.pack_set-answer.ensures.written) _ c.in_default.is in record { end = p.0; size = p.1.0; written = p.1.1 }
 
 pub loop-k-preserved : goal.loop-k-preserved
 loop-k-preserved c =

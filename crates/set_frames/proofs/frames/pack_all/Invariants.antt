@@ -1,12 +1,9 @@
 -- `set_frames::frames::pack_all` meets its contract: after k turns k frames stand in front, and a refused set or the last one ends them. Assumes nothing.
-use mathlib.Core.Path.{◌≡◌, refl, ap₂}
-use mathlib.Core.Bool.{Bool}
-use Prim.Native.Nat.{ℕ, ◌*◌, ◌-◌, ◌≤◌}
-use native.Mathlib.Numerals.{add-one}
-use native.Mathlib.Omega.{arith}
+use mathlib.Core.Path.{◌≡◌}
+use Prim.Native.Nat.{◌*◌, ◌-◌, ◌≤◌}
 use lib.ListN.{length}
-use Rattle.set_frames.specs.Sending.{sets_in, sent_from, sent}
-use Rattle.set_frames.proofs.Turns.{SoFar, last_owes, packed_owes, refused_owes}
+use Rattle.set_frames.specs.Sending.{sets_in}
+use Rattle.set_frames.proofs.Turns.{SoFar}
 use Rattle.set_frames.proofs.frames.pack_all.Given as goal
 
 abbrev pub invariant-loop-k : goal.invariant-loop-k

@@ -2,7 +2,6 @@
 use mathlib.Core.Path.{◌≡◌, refl, sym, ap, ◌∙◌}
 use mathlib.Core.List.{List, ◌++◌}
 use Prim.Native.Nat.{ℕ, ◌/◌}
-use native.Mathlib.Omega.{arith}
 use lib.ListN.{length, drop}
 use borrow.Author.Tests.{lt-ltb, le-ltb}
 use Rattle.bits.specs.Lists.{written_unless}
@@ -24,11 +23,11 @@ pub returns-then-out-bytes : goal.returns-then-out-bytes
 returns-then-out-bytes c =
     let a = c.args in
     let p = owes a.order.now a.bytes.now a.out.now 1
-    (rw (lt-ltb (length a.out.now / 7) (sets_in a.bytes.now) c.if-out-bytes.true) refl) in record {answer = p.0; written = p.1;}
+    (rw (lt-ltb (length a.out.now / 7) (sets_in a.bytes.now) c.if-out-bytes.true) refl) in record { answer = p.0; written = p.1 }
 
 pub returns : goal.returns
 returns c =
     let packed = c in
     let a = packed.args in
     let e = packed.pack_all.ensures in
-    let o = owes a.order.now a.bytes.now a.out.now 0 (rw (le-ltb (length a.out.now / 7) (sets_in a.bytes.now) packed.if-out-bytes.false) refl) in record {answer = ap Packed e.end ∙ o.0; written = e.written ∙ ap (λ (n : ℕ). sent a.order.now a.bytes.now ++ drop n a.out.now) e.end ∙ o.1;}
+    let o = owes a.order.now a.bytes.now a.out.now 0 (rw (le-ltb (length a.out.now / 7) (sets_in a.bytes.now) packed.if-out-bytes.false) refl) in record { answer = ap Packed e.end ∙ o.0; written = e.written ∙ ap (λ (n : ℕ). sent a.order.now a.bytes.now ++ drop n a.out.now) e.end ∙ o.1 }

@@ -1,13 +1,10 @@
 -- `soft::choice::count_of` meets its contract: after u turns it is how many of the first u have the cost. Assumes nothing.
-use mathlib.Core.Path.{◌≡◌, refl, sym, ap, ap₂, ◌∙◌}
-use mathlib.Core.Bool.{Bool}
-use Prim.Native.Nat.{ℕ, ◌+◌, ◌-◌, ◌≤◌}
-use native.Mathlib.Omega.{arith}
+use mathlib.Core.Path.{◌≡◌}
+use Prim.Native.Nat.{◌-◌, ◌≤◌}
 use lib.Dec.{eqb}
 use lib.ListN.{length}
 use Rattle.bits.specs.Bits.{ones, cut}
 use Rattle.soft.specs.Prices.{cost_in}
-use Rattle.soft.proofs.Counts.{ones_more}
 use Rattle.soft.proofs.choice.count_of.Given as goal
 
 abbrev pub invariant-loop-u : goal.invariant-loop-u

@@ -4,7 +4,7 @@ use borrow.Author.Tests.{eq-eqb, ne_eqb}
 use Rattle.soft.proofs.choice.counted.Goals as goal
 
 pub returns-then-price-cost : goal.returns-then-price-cost
-returns-then-price-cost c = record {number = simp (eq-eqb _ _ c.if-price-cost.true); bound = omega arith;}
+returns-then-price-cost c = record { number = simp (eq-eqb _ _ c.if-price-cost.true); bound = omega arith }
 
 pub returns-else-price-cost : goal.returns-else-price-cost
-returns-else-price-cost c = record {number = simp (ne_eqb _ _ c.if-price-cost.false); bound = omega arith;}
+returns-else-price-cost c = record { number = simp (ne_eqb _ _ c.if-price-cost.false); bound = omega arith }

@@ -3,7 +3,6 @@ use mathlib.Core.Path.{◌≡◌, refl, ap, subst⁻¹}
 use mathlib.Core.Bool.{Bool, ◌&&◌}
 use mathlib.Core.List.{List}
 use Prim.Native.Nat.{ℕ}
-use native.Mathlib.Omega.{arith}
 use lib.Dec.{eqb, leb}
 use Rattle.hamming.specs.Word.{length_of}
 use Rattle.hamming.specs.declared.WordLength.{WordLength}

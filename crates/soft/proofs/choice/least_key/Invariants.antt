@@ -1,14 +1,10 @@
 -- `soft::choice::least_key` meets its contract: after u turns it is the key of the least of the first u. Assumes nothing.
-use mathlib.Core.Path.{◌≡◌, sym, ap, ap₂, ◌∙◌}
-use mathlib.Core.Bool.{cond}
-use Prim.Native.Nat.{ℕ, ◌-◌, ◌≤◌}
-use native.Mathlib.Numerals.{add-one}
-use native.Mathlib.Omega.{arith}
-use lib.Dec.{ltb}
+use mathlib.Core.Path.{◌≡◌}
+use Prim.Native.Nat.{◌-◌, ◌≤◌}
 use lib.ListN.{length}
 use Rattle.soft.specs.Least.{least_by}
 use Rattle.soft.specs.Prices.{key_number}
-use Rattle.soft.proofs.Keys.{key_in, number_more}
+use Rattle.soft.proofs.Keys.{key_in}
 use Rattle.soft.proofs.choice.least_key.Given as goal
 
 abbrev pub invariant-loop-u : goal.invariant-loop-u

@@ -1,7 +1,7 @@
 -- `soft::prices::prices` meets its contract: after u turns the first u prices stand in front. Assumes nothing.
 use mathlib.Core.Path.{◌≡◌, refl, sym, ap, ap₂, ◌∙◌}
 use mathlib.Core.List.{List, ◌++◌}
-use Prim.Native.Nat.{ℕ, ◌+◌, ◌-◌, ◌≤◌, ◌<◌}
+use Prim.Native.Nat.{ℕ, ◌≤◌, ◌<◌}
 use native.Mathlib.Nat.{zero-add}
 use native.Mathlib.Omega.{arith}
 use lib.ListN.{length, get_or, take, drop, set, replicate}
@@ -81,5 +81,8 @@ returns c =
     let n = length_of (l (goal.at.returns p).After-parts_of-came) in
     let s = target (l (goal.at.returns p).After-parts_of-came) (of_data (goal.at.returns p).After-parts_of-came) (of_parity (goal.at.returns p).After-parts_of-came) (came (goal.at.returns p).After-parts_of-came) in
     let size : length s ≤ code_words n = omega (arith, cut_length (entry_price n (came (goal.at.returns p).After-parts_of-came).data (came (goal.at.returns p).After-parts_of-came).parity (of_data (goal.at.returns p).After-parts_of-came) (of_parity (goal.at.returns p).After-parts_of-came)) 0 (code_words n)) in
-    let all : c.loop-u.u ≡ code_words n = omega (arith, c.loop-u.invariant.2) in record {prices = front_all s (replicate 16 65535) _ _ (code_words n) c.loop-u.invariant.3 all size
-          ∙ ap (λ (front : List ℕ). front ++ drop (code_words n) (replicate 16 65535)) (cut_ext _ _ 0 (code_words n) (λ j a b. (price_is (goal.at.returns p).After-parts_of-came j (omega arith)).0)); bound = λ v h. omega (arith, (price_is (goal.at.returns p).After-parts_of-came v h).0, (price_is (goal.at.returns p).After-parts_of-came v h).1.2, (price_is (goal.at.returns p).After-parts_of-came v h).1.3);}
+    let all : c.loop-u.u ≡ code_words n = omega (arith, c.loop-u.invariant.2) in record {
+      prices = front_all s (replicate 16 65535) _ _ (code_words n) c.loop-u.invariant.3 all size
+          ∙ ap (λ (front : List ℕ). front ++ drop (code_words n) (replicate 16 65535)) (cut_ext _ _ 0 (code_words n) (λ j a b. (price_is (goal.at.returns p).After-parts_of-came j (omega arith)).0));
+      bound = λ v h. omega (arith, (price_is (goal.at.returns p).After-parts_of-came v h).0, (price_is (goal.at.returns p).After-parts_of-came v h).1.2, (price_is (goal.at.returns p).After-parts_of-came v h).1.3);
+    }

@@ -2,7 +2,6 @@
 use mathlib.Core.Path.{subst}
 use mathlib.Core.List.{List, [], ◌∷◌}
 use Prim.Native.Nat.{ℕ}
-use native.Mathlib.Omega.{arith}
 use Rattle.soft.specs.Prices.{SumsOf}
 use Rattle.soft.proofs.Sums.{four_sums, sums_of}
 use Rattle.soft.proofs.prices.sums.Goals as goal
