@@ -1,0 +1,68 @@
+// Reading the front of an input, over std. Each program reads its input with it.
+#![tactic(auto)]
+
+ghost use Rattle.std.specs.Prelude.{◌≡◌, ◌+◌, ◌<◌, ◌≤◌, length, take, drop, IfOk, IfSome};
+ghost use Rattle.std.specs.Io.KnownBytes.{Consumes, IsAtEnd};
+ghost use Rattle.bits.specs.Lists.{ReadFrom};
+ghost use Rattle.console.specs.Counts.{IsPrefixLen};
+
+use std::io;
+use std::io::{ErrorKind, Read};
+
+// 65,536 zeros. The `ensures` gives only the length, which lending the array as a slice needs.
+pub fn large_buffer() -> [u8; 65536]
+    ensures { 65536 ≡ length result }
+{
+    [0; 65536]
+}
+
+// Reads until the buffer is full or the input ends, and returns how many bytes it put at the front: the whole input, or as
+// much of it as the buffer takes. What follows stays unread. After a failed read nothing is said of the buffer.
+pub fn read_full<R: Read>(input: &mut R, buf: &mut [u8]) -> io::Result<usize>
+    ensures size { IfOk result (λ n. IsPrefixLen n buf.new) }
+    ensures whole { IfOk result (λ n. IfSome (R.remaining input.old) (ReadFrom buf.new n)) }
+    ensures bytes { IfOk result (λ n. Consumes (R.remaining input.old) (R.remaining input.new) (take n buf.new)) }
+    ensures end { IfOk result (λ n. n < length buf.new → IsAtEnd (R.remaining input.new)) }
+{
+    let mut done = 0;
+    while done < buf.len() {
+        let n = read_at(input, buf, done)?;
+        if n == 0 {
+            break;
+        }
+        done += n;
+    }
+    Ok(done)
+}
+
+// One read, to the place `at` of the buffer.
+fn read_at<R: Read>(input: &mut R, buf: &mut [u8], at: usize) -> io::Result<usize>
+    requires { at < length buf.old }
+    ensures len { length buf.new ≡ length buf.old }
+    ensures front { take at buf.new ≡ take at buf.old }
+    ensures fits { IfOk result (λ n. at + n ≤ length buf.new) }
+    ensures bytes { IfOk result (λ n. Consumes (R.remaining input.old) (R.remaining input.new) (take n (drop at buf.new))) }
+    ensures end { IfOk result (λ n. n ≡ 0 → IsAtEnd (R.remaining input.new)) }
+{
+    read_retrying(input, &mut buf[at..])
+}
+
+// One read, again where a signal cut it short.
+fn read_retrying<R: Read>(input: &mut R, buf: &mut [u8]) -> io::Result<usize>
+    ensures size { IfOk result (λ n. IsPrefixLen n buf.new) }
+    ensures len { length buf.new ≡ length buf.old }
+    ensures bytes { IfOk result (λ n. Consumes (R.remaining input.old) (R.remaining input.new) (take n buf.new)) }
+    ensures end { IfOk result (λ n. n ≡ 0 → 0 < length buf.old → IsAtEnd (R.remaining input.new)) }
+{
+    for _ in 0..u64::MAX {
+        match input.read(buf) {
+            Ok(n) => return Ok(n),
+            Err(e) => {
+                if e.kind() != ErrorKind::Interrupted {
+                    return Err(e);
+                }
+            }
+        }
+    }
+    Err(io::Error::from(ErrorKind::TimedOut))
+}
