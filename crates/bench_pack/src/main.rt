@@ -6,11 +6,14 @@
 
 mod frames;
 
+use std::io;
+use std::io::Write;
+
 // Reads the order and the sets, and writes their frames. Bytes past the 65,581st stay unread.
-fn main() {
+fn main(rt: HostRuntime) -> io::Result<()> {
     let mut input = [0u8; 65581];
-    let size = io::read_full(0, &mut input);
+    let size = console::read_full(&mut rt.stdin(), &mut input)?;
     let mut out = [0u8; 41699];
     let end = frames::pack_input(&input[..size], &mut out);
-    io::write_all(1, &out[..end]);
+    rt.stdout().write_all(&out[..end])
 }

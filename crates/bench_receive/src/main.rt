@@ -7,10 +7,13 @@
 
 mod frames;
 
+use std::io;
+use std::io::Write;
+
 // Reads the order and the frames, and writes their sum. Bytes past the 65,588th stay unread.
-fn main() {
+fn main(rt: HostRuntime) -> io::Result<()> {
     let mut input = [0u8; 65588];
-    let size = io::read_full(0, &mut input);
+    let size = console::read_full(&mut rt.stdin(), &mut input)?;
     let bytes = frames::sum_bytes(&input[..size]);
-    io::write_all(1, &bytes);
+    rt.stdout().write_all(&bytes)
 }

@@ -8,13 +8,16 @@
 mod frames;
 mod messages;
 
+use std::io;
+use std::io::Write;
+
 // Reads the file and writes its frames. One byte more than the longest file has is enough; the rest stays unread.
-fn main() {
+fn main(rt: HostRuntime) -> io::Result<()> {
     let mut input = [0u8; 34035];
-    let size = io::read_full(0, &mut input);
+    let size = console::read_full(&mut rt.stdin(), &mut input)?;
     let mut out = [0u8; 14000];
     let mut message = [0u8; 60];
     let ends = messages::read_file(&input, size, &mut out, &mut message);
-    io::write_all(1, &out[..ends.frames]);
-    io::write_all(2, &message[..ends.message]);
+    rt.stdout().write_all(&out[..ends.frames])?;
+    rt.stderr().write_all(&message[..ends.message])
 }

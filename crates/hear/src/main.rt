@@ -9,9 +9,12 @@ mod frames;
 mod output;
 mod printing;
 
+use std::io;
+
 // Reads the frames and prints the text. Bytes past the 65,534th stay unread.
-fn main() {
+fn main(rt: HostRuntime) -> io::Result<()> {
     let mut input = [0u8; 65534];
-    let size = io::read_full(0, &mut input);
-    printing::print_call(&input, size);
+    let size = console::read_full(&mut rt.stdin(), &mut input)?;
+    printing::print_call(&mut rt.stdout(), &input, size)?;
+    Ok(())
 }

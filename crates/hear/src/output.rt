@@ -1,6 +1,10 @@
 // The one place that writes, and the count of what is sent.
-ghost use Rattle.std.specs.Prelude.{◌≡◌, ◌+◌, ◌≤◌, length, take, drop};
+ghost use Rattle.std.specs.Prelude.{◌≡◌, ◌+◌, ◌≤◌, length, take, drop, IfOk, OnOk};
+ghost use Rattle.std.specs.Io.KnownBytes.{Appends};
 ghost use Rattle.hear.specs.Call.{text};
+
+use std::io;
+use std::io::Write;
 
 // How many bytes of the text are sent. The field is private: no other file can make or raise a count, so what is not
 // written is not counted.
@@ -16,13 +20,20 @@ pub(crate) fn nothing() -> Sent
     Sent { count: 0 }
 }
 
-// Sends the first bytes of the buffer, which are those of the text after the sent ones. That it writes as many as it
-// counts is for the reader to see: no contract can say what `write_all` writes.
-pub(crate) fn send(bytes: &[u8], out: &[u8], sent: Sent, end: usize) -> Sent
+// Sends the first bytes of the buffer, which are those of the text after the sent ones. A writer that tells what it
+// holds holds them then.
+pub(crate) fn send<W: Write>(
+    to: &mut W,
+    bytes: &[u8],
+    out: &[u8],
+    sent: Sent,
+    end: usize,
+) -> io::Result<Sent>
     requires { (end ≤ length out.now) × (take end out.now ≡ take end (drop sent.count (text bytes.now))) × (sent.count + end ≤ 2000000) }
-    ensures { result.count ≡ sent.count + end }
+    ensures count { IfOk result (λ s. s.count ≡ sent.count + end) }
+    ensures written { OnOk result (Appends (W.contents to.old) (W.contents to.new) (take end out.now)) }
 {
-    io::write_all(1, &out[..end]);
+    to.write_all(&out[..end])?;
     let count = sent.count + end;
-    Sent { count }
+    Ok(Sent { count })
 }

@@ -6,11 +6,14 @@
 
 mod frames;
 
+use std::io;
+use std::io::Write;
+
 // Reads the sets and writes their frames. Bytes past the 65,536th stay unread.
-fn main() {
-    let mut input = io::large_buffer();
-    let size = io::read_full(0, &mut input);
+fn main(rt: HostRuntime) -> io::Result<()> {
+    let mut input = console::large_buffer();
+    let size = console::read_full(&mut rt.stdin(), &mut input)?;
     let mut out = [0u8; 41699];
     let end = frames::pack_sets(&input[..size], &mut out);
-    io::write_all(1, &out[..end]);
+    rt.stdout().write_all(&out[..end])
 }

@@ -10,31 +10,35 @@ mod lines;
 mod printing;
 mod values;
 
-ghost use Rattle.io.specs.Counts.{IsPrefixLen};
+ghost use Rattle.console.specs.Counts.{IsPrefixLen};
 
-// A file to the front of a buffer, and how many bytes came; none where there is no such file. A file that
-// fills the buffer is longer than any good codebook, and what follows changes nothing (specs/Printed).
-fn read_file(path: &[u8], text: &mut [u8; 65536]) -> usize
+use std::io::Write;
+use std::rt::Files;
+use std::{fs, io};
+
+// A file to the front of a buffer, and how many bytes came; none where there is no such file, or it cannot be
+// read. A file that fills the buffer is longer than any good codebook, and what follows changes nothing (specs/Printed).
+fn read_file<R: Files>(rt: &R, path: &str, text: &mut [u8; 65536]) -> usize
     ensures { IsPrefixLen result text.new }
 {
-    let file = os::open_read(path);
-    if file < 0 {
+    let Ok(mut file) = fs::open(rt, path) else {
         return 0;
+    };
+    match console::read_full(&mut file, text) {
+        Ok(got) => got,
+        Err(_) => 0,
     }
-    let got = io::read_full(file, text);
-    libc::close(file);
-    got
 }
 
 // Reads the frame and the texts of both codebooks, and prints what they give. An eighth byte of input tells a
 // frame from a longer input.
-fn main() {
+fn main(rt: HostRuntime) -> io::Result<()> {
     let mut input = [0u8; 8];
-    let size = io::read_full(0, &mut input);
-    let mut lsf = io::large_buffer();
-    let lsf_size = read_file(b"lsf.txt", &mut lsf);
-    let mut magnitudes = io::large_buffer();
-    let magnitudes_size = read_file(b"mag.txt", &mut magnitudes);
+    let size = console::read_full(&mut rt.stdin(), &mut input)?;
+    let mut lsf = console::large_buffer();
+    let lsf_size = read_file(&rt, "lsf.txt", &mut lsf);
+    let mut magnitudes = console::large_buffer();
+    let magnitudes_size = read_file(&rt, "mag.txt", &mut magnitudes);
     let mut text = [0u8; 512];
     let end = printing::write_printed(
         &input,
@@ -45,5 +49,5 @@ fn main() {
         magnitudes_size,
         &mut text,
     );
-    io::write_all(1, &text[..end]);
+    rt.stdout().write_all(&text[..end])
 }

@@ -6,13 +6,16 @@
 
 mod files;
 
+use std::io;
+use std::io::Write;
+
 // Reads the frames and writes both texts. One byte more than 2,000 frames have is enough to refuse; the rest stays unread.
-fn main() {
+fn main(rt: HostRuntime) -> io::Result<()> {
     let mut input = [0u8; 14001];
-    let size = io::read_full(0, &mut input);
+    let size = console::read_full(&mut rt.stdin(), &mut input)?;
     let mut file = [0u8; 34034];
     let mut message = [0u8; 22];
     let ends = files::write_file(&input, size, &mut file, &mut message);
-    io::write_all(1, &file[..ends.file]);
-    io::write_all(2, &message[..ends.message]);
+    rt.stdout().write_all(&file[..ends.file])?;
+    rt.stderr().write_all(&message[..ends.message])
 }

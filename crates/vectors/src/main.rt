@@ -48,33 +48,36 @@ mod texts;
 mod values;
 mod vector;
 
+use std::io;
+use std::io::Write;
+
 // A name and a number.
-fn print(name: &[u8], n: u64) {
-    io::write_all(1, name);
-    io::print_decimal(1, n);
+fn print<W: Write>(to: &mut W, name: &[u8], n: u64) -> io::Result<()> {
+    to.write_all(name)?;
+    write!(to, "{n}")
 }
 
 // Prints how many vectors were read, how many of them differ, and how many bytes came after them.
-fn tell(vectors: u64, differences: u64, left: u64) {
-    print(b"vectors=", vectors);
-    print(b" differences=", differences);
-    print(b" left=", left);
-    io::write_all(1, b"\n");
+fn tell<W: Write>(to: &mut W, vectors: u64, differences: u64, left: u64) -> io::Result<()> {
+    print(to, b"vectors=", vectors)?;
+    print(to, b" differences=", differences)?;
+    print(to, b" left=", left)?;
+    to.write_all(b"\n")
 }
 
 // How many vectors are read at most.
 const MOST: u64 = 4_000_000;
 
 // Reads the vectors and runs each.
-fn main() {
+fn main(rt: HostRuntime) -> io::Result<()> {
     let mut r = [0u8; 256];
     let mut differences: u64 = 0;
     for i in 0..MOST {
-        let got = io::read_full(0, &mut r);
+        let got = console::read_full(&mut rt.stdin(), &mut r)?;
         if got < 256 {
-            return tell(i, differences, got as u64);
+            return tell(&mut rt.stdout(), i, differences, got as u64);
         }
         differences += !calls::agrees(&r) as u64;
     }
-    tell(MOST, differences, 0);
+    tell(&mut rt.stdout(), MOST, differences, 0)
 }

@@ -38,7 +38,7 @@ fn step_at(kind: u8, text: &[u8], at: usize) -> Step {
 
 // Kinds 25 and 26: a step at the offset in bytes 10 to 17; the answer, the frame, and the offset after it.
 pub(crate) fn step_agrees(r: &[u8; 256], kind: u8) -> bool {
-    let mut text = io::large_buffer();
+    let mut text = console::large_buffer();
     let size = write_text(r, &mut text);
     let step = step_at(kind, front(&text, size), number(r, 10, 8));
     let answer = step.answer;
@@ -81,7 +81,7 @@ fn holds(out: &[u8; 34100], text: &[u8]) -> bool {
 
 // Whether the output has the text of the vector, which must fit in the bytes that were lent of it.
 fn output_agrees(r: &[u8; 256], out: &[u8; 34100], room: usize) -> bool {
-    let mut text = io::large_buffer();
+    let mut text = console::large_buffer();
     let size = write_text(r, &mut text);
     (size <= room) & holds(out, front(&text, size))
 }
@@ -96,7 +96,7 @@ pub(crate) fn write_agrees(r: &[u8; 256]) -> bool {
     if 34100 < room {
         return false;
     }
-    let mut frames = io::large_buffer();
+    let mut frames = console::large_buffer();
     write_frames(r, &mut frames, size);
     let mut out = [HELD; 34100];
     let answer = session::write(front(&frames, size), &mut out[..room]);
@@ -106,7 +106,7 @@ pub(crate) fn write_agrees(r: &[u8; 256]) -> bool {
 // Kind 28: the three lines before the frames; the refusal, the bad one, how many frames there are, and where the first one's
 // line starts.
 pub(crate) fn header_agrees(r: &[u8; 256]) -> bool {
-    let mut text = io::large_buffer();
+    let mut text = console::large_buffer();
     let size = write_text(r, &mut text);
     let header = session_lines::read_header(front(&text, size));
     (byte(r, 18) == header.refusal)
@@ -117,7 +117,7 @@ pub(crate) fn header_agrees(r: &[u8; 256]) -> bool {
 
 // Kind 29: the line at the offset in bytes 10 to 17, where a frame's is due; the refusal and the frame.
 pub(crate) fn line_agrees(r: &[u8; 256]) -> bool {
-    let mut text = io::large_buffer();
+    let mut text = console::large_buffer();
     let size = write_text(r, &mut text);
     let line = session_lines::read_frame(front(&text, size), number(r, 10, 8));
     let frame = line.frame;

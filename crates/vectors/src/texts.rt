@@ -33,7 +33,7 @@ fn read_agrees(r: &[u8; 256], kind: u8, text: &[u8], expected: &[i64]) -> bool
 pub(crate) fn text_agrees(r: &[u8; 256], kind: u8, expected: &[i64]) -> bool
     requires { length expected.now ≤ 3201 }
 {
-    let mut text = io::large_buffer();
+    let mut text = console::large_buffer();
     let size = write_text(r, &mut text);
     read_agrees(r, kind, front(&text, size), expected)
 }
