@@ -1,0 +1,13 @@
+-- `bench_soft::frames::sum_of` meets its contract: after k turns k answers are added. Assumes nothing.
+use mathlib.Core.Path.{◌≡◌}
+use Prim.Native.Nat.{◌-◌, ◌*◌, ◌/◌, ◌≤◌}
+use lib.ListN.{length}
+use Rattle.bench_soft.specs.SoftFrames.{record_after, sum_before}
+use Rattle.bench_soft.proofs.frames.sum_of.Given as goal
+
+abbrev pub invariant-loop-k : goal.invariant-loop-k
+invariant-loop-k l =
+    (l.k-end ≡ length l.bytes / 61) × (l.k ≤ l.k-end) × (l.total.rec ≡ record_after l.order l.bytes l.k) × (l.total.sum ≡ sum_before l.order l.bytes l.k) × (l.total.sum ≤ 10000000000 * l.k)
+
+abbrev pub decreases-loop-k : goal.decreases-loop-k
+decreases-loop-k l = l.k-end - l.k
