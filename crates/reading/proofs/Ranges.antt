@@ -20,7 +20,6 @@ use Rattle.hamming.specs.declared.Decoded.TheVariants as word
 use Rattle.order.specs.Fields.{word_a, word_b, word_c, word_d, pitch_bits}
 use Rattle.sets.specs.Sets.{indices_fit, voicing_fits}
 use Rattle.reading.specs.Reading.{indices_of, voicing_of, from_words, by_class, read, reading_fits}
-use Rattle.reading.specs.declared.Reading.TheVariants.{Erased}
 use Rattle.sets.proofs.Ranges.{index_fits_lem, voicing_fits_lem}
 use Rattle.reading.proofs.Outcomes.{Outcomes}
 

@@ -1,16 +1,10 @@
 -- `bursts::width::apart_at` meets its contract: at no place before t does a part meet itself. Assumes nothing.
-use mathlib.Core.Path.{◌≡◌, refl, sym, ap, subst, ◌∙◌}
-use mathlib.Core.Bool.{true, false, not}
-use Prim.Native.Nat.{ℕ, ◌-◌, ◌≤◌, ◌<◌}
-use native.Mathlib.Numerals.{add-one}
-use native.Mathlib.Omega.{arith}
+use mathlib.Core.Path.{◌≡◌}
+use Prim.Native.Nat.{◌-◌, ◌≤◌, ◌<◌}
 use lib.Dec.{T}
 use lib.ListN.{length}
-use borrow.Author.Rules.{rules}
 use Rattle.bits.specs.Lists.{every}
-use Rattle.bits.proofs.Tests.{and_both, T_true, true_T}
 use Rattle.bursts.specs.Distances.{differ}
-use Rattle.bursts.proofs.Tests.{fails_every}
 use Rattle.bursts.proofs.width.apart_at.Given as goal
 
 abbrev pub invariant-loop-t : goal.invariant-loop-t

@@ -1,14 +1,12 @@
 -- `bursts::width::smallest_distance` meets its contract: at no smaller distance do bits of one part meet. Assumes nothing.
 use mathlib.Core.Path.{◌≡◌, sym, subst, ◌∙◌}
 use mathlib.Core.Bool.{Bool, true, false}
-use Prim.Native.Nat.{ℕ, ◌+◌, ◌-◌, ◌≤◌, ◌<◌}
+use Prim.Native.Nat.{ℕ, ◌+◌, ◌≤◌, ◌<◌}
 use native.Mathlib.Omega.{arith}
 use native.Mathlib.Decide.{ℕ_discrete}
 use lib.Dec.{T, lit≤}
 use borrow.Author.Rules.{rules}
-use borrow.Author.Tests.{not-true, not-false}
 use Rattle.bits.proofs.Tests.{T_true}
-use Rattle.order.specs.Order.{is_order}
 use Rattle.order.proofs.Orders.{is_order_only}
 use Rattle.bursts.specs.Distances.{apart_at}
 use Rattle.bursts.proofs.Distances.{width_is}

@@ -1,6 +1,5 @@
 -- `reading::parts::indices` meets its contract: the data are joined, and the other bits are parts. Assumes nothing.
 use Prim.Native.Nat.{◌+◌, ◌*◌, ◌/◌, ◌%◌}
-use native.Mathlib.Omega.{arith}
 use Rattle.reading.proofs.parts.indices.Goals as goal
 
 pub returns : goal.returns

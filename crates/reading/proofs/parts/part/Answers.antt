@@ -30,4 +30,4 @@ returns c =
     let a = c.args in
     let low : ℕ = 54 - a.first - a.count in
     let e : a.first + (a.count + low) ≡ 54 = omega arith in
-    record {part = ap (λ (m : ℕ). a.bits / 2 ^ low % m) (divisor c) ∙ part_is a.first a.count low a.bits e; bound = rest_lt c (a.bits / 2 ^ low);}
+    record { part = ap (λ (m : ℕ). a.bits / 2 ^ low % m) (divisor c) ∙ part_is a.first a.count low a.bits e; bound = rest_lt c (a.bits / 2 ^ low) }

@@ -1,5 +1,4 @@
 -- `reading::parts::voicing` meets its contract: the Fourier index is joined from its three parts, and the others are parts. Assumes nothing.
-use native.Mathlib.Omega.{arith}
 use Rattle.bits.specs.Bits.{carried}
 use Rattle.reading.proofs.Shifts.{fourier_is}
 use Rattle.reading.proofs.parts.voicing.Goals as goal

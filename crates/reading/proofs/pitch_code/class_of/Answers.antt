@@ -1,6 +1,5 @@
 -- `reading::pitch_code::class_of` meets its contract: a seven-bit code is not refused. Assumes nothing.
 use mathlib.Core.Path.{◌≡◌, sym, ap, ◌∙◌}
-use native.Mathlib.Omega.{arith}
 use Rattle.bits.specs.Bits.{bits}
 use Rattle.pitch.specs.Pitch.{class_of, class_in}
 use Rattle.pitch.proofs.Answers.{class_in_is}

@@ -1,10 +1,9 @@
 -- `reading::soft_unpacking::eight` meets its contract: after i turns the first i stand in front. Assumes nothing.
-use mathlib.Core.Path.{◌≡◌, refl, sym, ap₂, ◌∙◌}
-use mathlib.Core.List.{List, ◌++◌}
-use Prim.Native.Nat.{ℕ, ◌-◌, ◌≤◌}
+use mathlib.Core.Path.{refl, sym, ap₂, ◌∙◌}
+use mathlib.Core.List.{List}
+use Prim.Native.Nat.{ℕ}
 use native.Mathlib.Omega.{arith}
-use lib.ListN.{length, get_or, take, drop, set, replicate}
-use Rattle.bits.specs.Bits.{cut}
+use lib.ListN.{get_or, set, replicate}
 use Rattle.bits.proofs.Cut.{cut_at}
 use Rattle.bits.proofs.Front.{front_more, front_all}
 use Rattle.reading.proofs.soft_unpacking.eight.Invariants.{target}

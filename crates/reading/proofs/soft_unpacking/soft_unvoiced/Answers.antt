@@ -3,7 +3,6 @@ use mathlib.Core.Path.{◌≡◌, refl, ◌∙◌, subst⁻¹}
 use mathlib.Core.Bool.{Bool}
 use mathlib.Core.List.{List}
 use Prim.Native.Nat.{ℕ}
-use native.Mathlib.Omega.{arith}
 use lib.ListN.{length, get_or, take}
 use Rattle.bits.specs.Bits.{carried}
 use Rattle.hamming.specs.Word.{Bounded}
@@ -22,15 +21,12 @@ module _ (at-d : After-choose-d) where
   at_c = (goal.at.After-choose-d at-d).After-choose-c
 
   abbrev at_b : After-choose-b
-
   at_b = (goal.at.After-choose-c at_c).After-choose-b
 
   abbrev at_a : After-choose-a
-
   at_a = (goal.at.After-choose-b at_b).After-choose-a
 
   abbrev start : Start
-
   start = (goal.at.After-choose-a at_a).Start
 
   abbrev g : ℕ → Bool

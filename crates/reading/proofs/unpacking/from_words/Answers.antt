@@ -5,8 +5,7 @@ use mathlib.Core.Bool.{Bool}
 use Prim.Native.Nat.{ℕ}
 use Rattle.bits.specs.Bits.{carried}
 use Rattle.reading.specs.Reading.{from_words}
-use Rattle.reading.proofs.Outcomes.{Bounds, outcomes_bounds, outcomes_read}
-use native.Mathlib.Omega.{arith}
+use Rattle.reading.proofs.Outcomes.{Bounds, outcomes_bounds}
 use Rattle.reading.proofs.unpacking.from_words.Goals as goal
 use Rattle.reading.proofs.unpacking.from_words.Goals.{In-Read, In-Read-b, In-Read-c, In-Read-d, Start}
 
@@ -20,15 +19,12 @@ module _ (c : In-Read-d) where
   word_c_lem = (goal.at.In-Read-d c).In-Read-c
 
   abbrev word_b_lem : In-Read-b
-
   word_b_lem = (goal.at.In-Read-c word_c_lem).In-Read-b
 
   abbrev word_a_lem : In-Read
-
   word_a_lem = (goal.at.In-Read-b word_b_lem).In-Read
 
   abbrev start : Start
-
   start = (goal.at.In-Read word_a_lem).Start
 
   bounds : Bounds word_a_lem.in-Read.ua word_b_lem.in-Read-b.ub word_c_lem.in-Read-c.uc c.in-Read-d.ud

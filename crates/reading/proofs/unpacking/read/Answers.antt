@@ -6,7 +6,6 @@ use Rattle.pitch.specs.declared.PitchClass.{PitchClass}
 use Rattle.bits.specs.Bits.{carried}
 use Rattle.reading.specs.Reading.{by_class, read}
 use Rattle.reading.proofs.Shifts.{bits_back}
-use native.Mathlib.Omega.{arith}
 use Rattle.reading.proofs.unpacking.read.Goals as goal
 use Rattle.reading.proofs.unpacking.read.Goals.{After-class_of-class}
 

@@ -1,7 +1,6 @@
 -- `reading::unpacking::repaired_in` meets its contract: five small counts are added. Assumes nothing.
 use mathlib.Core.Path.{ap, ◌∙◌}
 use Prim.Native.Nat.{ℕ, ◌+◌}
-use native.Mathlib.Omega.{arith}
 use Rattle.bits.specs.Bits.{carried}
 use Rattle.reading.specs.Reading.{pitch_repaired}
 use Rattle.reading.proofs.Shifts.{bits_back}

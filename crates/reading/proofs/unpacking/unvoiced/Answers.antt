@@ -12,7 +12,6 @@ use Rattle.order.specs.Fields.{word_a, word_b, word_c, word_d}
 use Rattle.bits.specs.Bits.{carried}
 use Rattle.reading.specs.Reading.{from_words}
 use Rattle.reading.proofs.Shifts.{bits_back}
-use native.Mathlib.Omega.{arith}
 use Rattle.reading.proofs.unpacking.unvoiced.Goals as goal
 use Rattle.reading.proofs.unpacking.unvoiced.Goals.{After-decode-a, After-decode-b, After-decode-c, After-decode-d}
 
@@ -22,11 +21,9 @@ module _ (at-d : After-decode-d) where
   at_c = (goal.at.After-decode-d at-d).After-decode-c
 
   abbrev at_b : After-decode-b
-
   at_b = (goal.at.After-decode-c at_c).After-decode-b
 
   abbrev at_a : After-decode-a
-
   at_a = (goal.at.After-decode-b at_b).After-decode-a
 
   abbrev g : ℕ → Bool

@@ -6,7 +6,6 @@ use Rattle.sets.specs.declared.Indices.{Indices}
 use Rattle.sets.specs.declared.Voicing.{Voicing}
 use Rattle.sets.specs.declared.ParameterSet.TheVariants.{Voiced}
 use Rattle.reading.specs.declared.Reading.TheVariants.{Accepted}
-use native.Mathlib.Omega.{arith}
 use Rattle.reading.proofs.unpacking.voiced.Goals as goal
 
 pub returns : goal.returns

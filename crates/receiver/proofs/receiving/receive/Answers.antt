@@ -2,7 +2,6 @@
 use mathlib.Core.Path.{sym, ap, ◌∙◌}
 use lib.Dec.{eqb}
 use Prim.Native.Nat.{◌%◌}
-use native.Mathlib.Omega.{arith}
 use Rattle.bits.proofs.Tests.{true_T}
 use Rattle.reading.specs.Reading.{reading_fits}
 use Rattle.reading.proofs.Ranges.{read_fits}

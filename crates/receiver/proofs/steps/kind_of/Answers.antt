@@ -1,6 +1,5 @@
 -- `receiver::steps::kind_of` meets its contract: each arm names its kind. Assumes nothing.
 use mathlib.Core.Path.{sym, ap}
-use native.Mathlib.Omega.{arith}
 use Rattle.receiver.specs.Steps.{kind_of}
 use Rattle.receiver.proofs.steps.kind_of.Goals as goal
 

@@ -1,7 +1,5 @@
 -- `receiver::steps::step` meets its contract: each arm is what its call ensures. Assumes nothing.
 use mathlib.Core.Path.{sym, ap, ◌∙◌}
-use native.Mathlib.Omega.{arith}
-use borrow.Author.Rules.{rules}
 use Rattle.receiver.specs.Steps.{step}
 use Rattle.receiver.proofs.steps.step.Goals as goal
 
