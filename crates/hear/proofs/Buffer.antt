@@ -1,10 +1,13 @@
 -- What waits in the buffer: more of it, what is sent of it, and that it is the next part of the whole text. Assumes nothing.
-use mathlib.Core.Path.{◌≡◌, sym, ap, ◌∙◌}
+use mathlib.Core.Path.{◌≡◌, sym, ap, subst, ◌∙◌}
 use mathlib.Core.List.{List, [], ◌++◌, append-nil, append_assoc}
 use Prim.Native.Nat.{ℕ, zero, suc, ◌+◌, ◌-◌, ◌≤◌}
 use native.Mathlib.Omega.{arith}
 use lib.ListN.{length, take, drop, length-append, length-drop}
-use lib.Seq.{drop-length, drop-append-le, take_at}
+use lib.Seq.{drop-length, drop-append-le, take_at, take-add}
+use Rattle.std.specs.declared.option.Option.{Option}
+use Rattle.std.specs.Io.KnownBytes.{Appends}
+use Rattle.std.proofs.KnownBytes.{Appends-trans}
 use Rattle.order.specs.Order.{default_order}
 use Rattle.report.specs.Lines.{frame_line, last_line}
 use Rattle.text.specs.Placing.{Appended}
@@ -52,3 +55,31 @@ text_append bytes k h =
     let e : k + (n - k) ≡ n = omega arith in
     let b : text_before bytes n ≡ text_before bytes k ++ g.0 = ap (text_before bytes) (sym e) ∙ g.1 in
     (g.0 ++ last, ap (λ (l : List ℕ). l ++ last) b ∙ append_assoc (text_before bytes k) g.0 last)
+
+-- what waits after k frames is the next part of the whole text
+pub pending_part : (bytes out : List ℕ) (k sent end : ℕ) → k ≤ frames_in bytes → Pending (text_before bytes k) sent end out
+    → take end out ≡ take end (drop sent (text bytes))
+pending_part bytes out k sent end h p =
+    let g = text_append bytes k h in
+    pending_next (text_before bytes k) sent end out p g.0 ∙ ap (λ (l : List ℕ). take end (drop sent l)) (sym g.1)
+
+-- a writer that was given the first m bytes of a text, and then its next part, was given the first n
+pub given_more : (whole part : List ℕ) (m end n : ℕ) (start before after : Option (List ℕ)) → n ≡ m + end → part ≡ take end (drop m whole)
+    → Appends before after part → Appends start before (take m whole) → Appends start after (take n whole)
+given_more whole part m end n start before after e next grown given =
+    let whole_is : take m whole ++ part ≡ take n whole = ap (λ (l : List ℕ). take m whole ++ l) next ∙ sym (take-add m end whole) ∙ ap (λ (k : ℕ). take k whole) (sym e) in
+    subst (Appends start after) whole_is (Appends-trans start before after _ _ given grown)
+
+-- with the last line the whole text is sent or waits
+pub whole_waits : (bytes before after : List ℕ) (repeats sent end last : ℕ) → repeats ≡ repeats_before bytes (frames_in bytes)
+    → Pending (text_before bytes (frames_in bytes)) sent end before → Appended before end (last_line (frames_in bytes) repeats (left_in bytes)) after last
+    → Pending (text bytes) sent last after
+unfolding text
+whole_waits bytes before after repeats sent end last e p added =
+    let n = frames_in bytes in
+    let Waits : ℕ → Type 0 = λ (k : ℕ). Pending (text_before bytes n ++ last_line n k (left_in bytes)) sent last after in
+    subst Waits e (pending_more (text_before bytes n) sent end before p _ after last added)
+
+-- what waits then is all that is not sent
+pub whole_part : (bytes out : List ℕ) (sent end : ℕ) → Pending (text bytes) sent end out → take end out ≡ take end (drop sent (text bytes))
+whole_part bytes out sent end p = pending_next (text bytes) sent end out p [] ∙ ap (λ (l : List ℕ). take end (drop sent l)) (append-nil (text bytes))

@@ -1,5 +1,7 @@
 -- Document 01, "Program hear": what is printed for the bytes of a call.
 use Rattle.std.specs.Prelude.{ℕ, zero, suc, ◌+◌, ◌*◌, ◌%◌, ◌≡◌, List, ◌++◌, length, take, drop}
+use Rattle.std.specs.declared.option.Option.{Option}
+use Rattle.std.specs.Io.KnownBytes.{Appends}
 use Rattle.bits.specs.Lists.{ReadFrom}
 use Rattle.order.specs.Order.{default_order}
 use Rattle.receiver.specs.declared.Kind.{Kind}
@@ -51,6 +53,14 @@ printed input = text (heard input)
 -- as many bytes as are printed, for every input from which a buffer and the count of its bytes were read
 abbrev pub AllPrinted : List ℕ → ℕ → ℕ → Type 0
 AllPrinted buffer size count = (input : List ℕ) → ReadFrom buffer size input → count ≡ length (printed input)
+
+-- a writer that tells what it holds, as `before` and then as `after`, was given all that is printed, for every such input
+abbrev pub AllSent : List ℕ → ℕ → Option (List ℕ) → Option (List ℕ) → Type 0
+AllSent buffer size before after = (input : List ℕ) → ReadFrom buffer size input → Appends before after (printed input)
+
+-- a helper of the code: a writer that was given the first m bytes of a text, and nothing else, then was given the first n
+abbrev pub GivenOn : List ℕ → ℕ → ℕ → Option (List ℕ) → Option (List ℕ) → Type 0
+GivenOn whole m n before after = (start : Option (List ℕ)) → Appends start before (take m whole) → Appends start after (take n whole)
 
 -- a helper of the code: of the text so far, `sent` bytes have gone out and the others wait at the front of a buffer, up to `end`
 abbrev pub Pending : List ℕ → ℕ → ℕ → List ℕ → Type 0

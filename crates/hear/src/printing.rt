@@ -1,8 +1,9 @@
 // The text of a call, sent in large parts.
-ghost use Rattle.std.specs.Prelude.{◌≡◌, ◌+◌, ◌≤◌, length, IfOk};
+ghost use Rattle.std.specs.Prelude.{◌≡◌, ◌+◌, ◌≤◌, length, take, IfOk, OnOk};
+ghost use Rattle.std.specs.Io.KnownBytes.{Appends};
 ghost use Rattle.console.specs.Counts.{IsPrefixLen};
 ghost use Rattle.receiver.specs.Frames.{frames_in};
-ghost use Rattle.hear.specs.Call.{repeats_before, text_before, text, most_bytes, AllPrinted, Pending};
+ghost use Rattle.hear.specs.Call.{repeats_before, text_before, text, most_bytes, AllPrinted, AllSent, GivenOn, Pending};
 
 use crate::frames::{Progress, begin, take_frame};
 use crate::output::{Sent, send};
@@ -24,6 +25,7 @@ fn make_room<W: Write>(
     ensures repeats { IfOk result (λ r. r.repeats ≡ before.repeats) }
     ensures pending { IfOk result (λ r. Pending (text_before bytes.now k) r.sent.count r.end out.now) }
     ensures room { IfOk result (λ r. r.end + 144 ≤ 65536) }
+    ensures written { IfOk result (λ r. GivenOn (text bytes.now) before.sent.count r.sent.count (W.contents to.old) (W.contents to.new)) }
 {
     if before.end <= 65392 {
         return Ok(before);
@@ -50,6 +52,7 @@ fn print_frames<W: Write>(
     ensures count { IfOk result (λ r. r.sent.count + r.end ≤ 1400000) }
     ensures pending { IfOk result (λ r. Pending (text_before bytes.now (frames_in bytes.now)) r.sent.count r.end out.new) }
     ensures bound { IfOk result (λ r. r.end ≤ 65536) }
+    ensures written { IfOk result (λ r. Appends (W.contents to.old) (W.contents to.new) (take r.sent.count (text bytes.now))) }
 {
     let mut progress = begin(end);
     for k in 0..bytes.len() / 7 {
@@ -61,7 +64,8 @@ fn print_frames<W: Write>(
 // The whole text; in the end as many bytes are sent as it has.
 fn print_text<W: Write>(to: &mut W, bytes: &[u8], out: &mut [u8]) -> io::Result<Sent>
     requires { (length bytes.now ≤ 65534) × (length out.old ≡ 65536) }
-    ensures { IfOk result (λ s. s.count ≡ length (text bytes.now)) }
+    ensures count { IfOk result (λ s. s.count ≡ length (text bytes.now)) }
+    ensures written { OnOk result (Appends (W.contents to.old) (W.contents to.new) (text bytes.now)) }
 {
     let first = end_of(report::first_line(out, 0), 0);
     let frames = bytes.len() / 7;
@@ -79,7 +83,8 @@ fn print_text<W: Write>(to: &mut W, bytes: &[u8], out: &mut [u8]) -> io::Result<
 // All that is printed for the standard input of which the first `size` bytes of a buffer for 9,362 frames were read.
 pub(crate) fn print_call<W: Write>(to: &mut W, input: &[u8], size: usize) -> io::Result<Sent>
     requires { (length input.now ≡ most_bytes) × IsPrefixLen size input.now }
-    ensures { IfOk result (λ s. AllPrinted input.now size s.count) }
+    ensures printed { IfOk result (λ s. AllPrinted input.now size s.count) }
+    ensures written { OnOk result (AllSent input.now size (W.contents to.old) (W.contents to.new)) }
 {
     let mut out = console::large_buffer();
     print_text(to, &input[..size], &mut out)

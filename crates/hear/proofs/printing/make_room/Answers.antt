@@ -1,0 +1,20 @@
+-- `hear::printing::make_room` meets its contract: what waits is the next part of the text, and then nothing waits. Assumes nothing.
+use native.Mathlib.Omega.{arith}
+use Rattle.hear.specs.Call.{text}
+use Rattle.hear.proofs.Buffer.{pending_part, given_more}
+use Rattle.hear.proofs.printing.make_room.Goals as goal
+
+pub send-requires : goal.send-requires
+send-requires g c =
+    let a = c.args in
+    let b = a.before in
+    let n = pending_part a.bytes.now a.out.now a.k b.sent.count b.end c.requires.k_bound.0 c.requires.k_bound.1 in
+    (omega (arith, c.requires.out_len), n, c.requires.out_len.2)
+
+pub returns-clause-written : goal.returns-clause-written
+returns-clause-written g c =
+    let a = c.args in
+    let b = a.before in
+    let n = pending_part a.bytes.now a.out.now a.k b.sent.count b.end c.requires.k_bound.0 c.requires.k_bound.1 in
+    let e = c.in_ok-send.ensures in
+    λ start given. given_more (text a.bytes.now) _ b.sent.count b.end _ start _ _ e.count n e.written given
