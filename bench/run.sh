@@ -5,11 +5,11 @@
 # pack (bench_pack); session files of 1,000 and of 2,000 frames (to_session and from_session). "less it" is without those for an
 # empty input, which is the order alone where there is one and for from_session the file of no frames, and the ratio is that of
 # the proved program to each. Status 1 if they write different bytes, if hear, receive, with confidences or without, or pack
-# takes more than in plain C, or if send takes more than 0.45 of it. HEAR stands in for target/bin/hear. Needs clang, valgrind
-# and the proved programs (rt check hear send bench_receive bench_soft bench_pack to_session from_session).
+# takes more than in plain C, or if send takes more than 0.45 of it. HEAR stands in for the proved hear. Needs clang, valgrind
+# and the proved programs, which rt run in crates/NAME builds as crates/NAME/out/NAME.
 set -euo pipefail
 top=$(cd "$(dirname "$0")/.." && pwd)
-hear=$(realpath "${1:-$top/target/bin/hear}")
+hear=$(realpath "${1:-$top/crates/hear/out/hear}")
 frames=9362
 soft=1074
 sets=5957
@@ -76,7 +76,7 @@ in_order() {
   { head -c 53 "$work/whole"; head -c 1 "$work/whole"; tail -c +55 "$work/whole"; } >"$work/none"
   empty=$work/order
   also=("$work/half" "$work/none")
-  measure "$1" "$top/target/bin/bench_$2" "$2.c" "$work/whole" "$4" "${@:6}"
+  measure "$1" "$top/crates/bench_$2/out/bench_$2" "$2.c" "$work/whole" "$4" "${@:6}"
   within "$1" 100
   also=()
 }
@@ -86,9 +86,9 @@ session() {
   head -c "$((7 * $1))" "$work/calls" >"$work/call"
   "$work/to_session" <"$work/call" >"$work/file"
   empty=/dev/null
-  measure "to_session $1" "$top/target/bin/to_session" to_session.c "$work/call" "$1" 'plain C'
+  measure "to_session $1" "$top/crates/to_session/out/to_session" to_session.c "$work/call" "$1" 'plain C'
   empty=$work/no_frames
-  measure "from_session $1" "$top/target/bin/from_session" from_session.c "$work/file" "$1" 'plain C'
+  measure "from_session $1" "$top/crates/from_session/out/from_session" from_session.c "$work/file" "$1" 'plain C'
 }
 
 empty=/dev/null
@@ -104,7 +104,7 @@ clang --version | head -n 1
 printf '%-20s %-18s %12s %9s %12s %9s %6s\n' what program instructions 'a frame' 'empty input' 'less it' ratio
 measure hear "$hear" hear.c "$work/input" $frames 'plain C' 'tuned C' 'tuned C, by moves'
 within hear 100
-measure send "$top/target/bin/send" send.c "$work/sets" $sets 'plain C' 'plain C, product' 'tuned C'
+measure send "$top/crates/send/out/send" send.c "$work/sets" $sets 'plain C' 'plain C, product' 'tuned C'
 within send 45
 in_order receive receive frames $frames 0 'plain C' 'tuned C' 'tuned C, by moves'
 in_order 'receive, other order' receive frames $frames 1 'plain C' 'tuned C'

@@ -8,11 +8,12 @@
 #   compare.sh hear FRAMES [SEED]          at least so many frames of the program hear
 #   compare.sh session FILES [SEED]        at least so many inputs of the programs from_session and to_session
 #   compare.sh                             a short run of all but order
-# Ends with status 1 at the first difference. Needs rustc, and the proved programs in target/bin (rt check).
+# Ends with status 1 at the first difference. Needs rustc and rt, which proves and builds the programs (crates/NAME/out).
 set -euo pipefail
 top=$(cd "$(dirname "$0")/.." && pwd)
-proved=$top/target/bin
 work=$(mktemp -d)
+proved=$work/proved
+mkdir "$proved"
 trap 'rm -rf "$work"' EXIT
 
 fail() {
@@ -26,11 +27,13 @@ progress() {
   told=$SECONDS
 }
 
-# prepare PROGRAM HELPER...: the proved program must be there; the independent one is built and tried on the document's
-# examples.
+# prepare PROGRAM HELPER...: the program is proved and built (rt run builds it, and runs it on nothing); the independent one
+# is built and tried on the document's examples.
 prepare() {
   local name
-  [ -x "$proved/$1" ] || fail "target/bin/$1 is missing: rt check $1 makes it"
+  (cd "$top/crates/$1" && rt run) </dev/null >/dev/null 2>"$work/said" ||
+    fail "rt run does not build $1:" "$(tail -n 3 "$work/said")"
+  cp "$top/crates/$1/out/$1" "$proved/$1"
   for name; do
     rustc -O -o "$work/$name" "$top/tests/reference/$name.rs"
   done
