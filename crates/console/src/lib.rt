@@ -1,13 +1,15 @@
-// Reading the front of an input, over std. Each program reads its input with it.
+// Reading the front of an input, and writing bytes so that a failure tells what went out, over std. Each program reads
+// its input with it.
 #![tactic(auto)]
 
-ghost use Rattle.std.specs.Prelude.{◌≡◌, ◌+◌, ◌<◌, ◌≤◌, length, take, drop, IfOk, IfSome};
-ghost use Rattle.std.specs.Io.KnownBytes.{Consumes, IsAtEnd};
+ghost use Rattle.std.specs.Prelude.{◌≡◌, ◌+◌, ◌<◌, ◌≤◌, length, take, drop, IfOk, IfSome, OnOk, OnErr};
+ghost use Rattle.std.specs.Io.KnownBytes.{Appends, Consumes, IsAtEnd, WriteAppends};
 ghost use Rattle.bits.specs.Lists.{ReadFrom};
 ghost use Rattle.console.specs.Counts.{IsPrefixLen};
+ghost use Rattle.console.specs.Fronts.{AppendsFront};
 
 use std::io;
-use std::io::{ErrorKind, Read};
+use std::io::{ErrorKind, Read, Write};
 
 // 65,536 zeros. The `ensures` gives only the length, which lending the array as a slice needs.
 pub fn large_buffer() -> [u8; 65536]
@@ -56,6 +58,41 @@ fn read_retrying<R: Read>(input: &mut R, buf: &mut [u8]) -> io::Result<usize>
 {
     for _ in 0..u64::MAX {
         match input.read(buf) {
+            Ok(n) => return Ok(n),
+            Err(e) => {
+                if e.kind() != ErrorKind::Interrupted {
+                    return Err(e);
+                }
+            }
+        }
+    }
+    Err(io::Error::from(ErrorKind::TimedOut))
+}
+
+// Writes all the bytes, one write after another. A writer that tells what it holds was given all of them then, and a
+// front of them where it ends in an error.
+pub fn write_all<W: Write>(to: &mut W, bytes: &[u8]) -> io::Result<()>
+    ensures whole { OnOk result (Appends (W.contents to.old) (W.contents to.new) bytes.now) }
+    ensures part { OnErr result (AppendsFront (W.contents to.old) (W.contents to.new) bytes.now) }
+{
+    let mut written = 0;
+    while written < bytes.len() {
+        let taken = write_retrying(to, &bytes[written..])?;
+        if taken == 0 {
+            return Err(io::Error::from(ErrorKind::WriteZero));
+        }
+        written += taken;
+    }
+    Ok(())
+}
+
+// One write, again where a signal cut it short. A failed write gives the writer nothing.
+fn write_retrying<W: Write>(to: &mut W, bytes: &[u8]) -> io::Result<usize>
+    ensures size { IfOk result (λ n. n ≤ length bytes.now) }
+    ensures bytes { WriteAppends (W.contents to.old) (W.contents to.new) result bytes.now }
+{
+    for _ in 0..u64::MAX {
+        match to.write(bytes) {
             Ok(n) => return Ok(n),
             Err(e) => {
                 if e.kind() != ErrorKind::Interrupted {

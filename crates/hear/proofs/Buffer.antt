@@ -8,6 +8,8 @@ use lib.Seq.{drop-length, drop-append-le, take_at, take-add}
 use Rattle.std.specs.declared.option.Option.{Option}
 use Rattle.std.specs.Io.KnownBytes.{Appends}
 use Rattle.std.proofs.KnownBytes.{Appends-trans}
+use Rattle.console.specs.Fronts.{AppendsFront}
+use Rattle.console.proofs.Fronts.{front_more}
 use Rattle.order.specs.Order.{default_order}
 use Rattle.report.specs.Lines.{frame_line, last_line}
 use Rattle.text.specs.Placing.{Appended}
@@ -69,6 +71,12 @@ pub given_more : (whole part : List ℕ) (m end n : ℕ) (start before after : O
 given_more whole part m end n start before after e next grown given =
     let whole_is : take m whole ++ part ≡ take n whole = ap (λ (l : List ℕ). take m whole ++ l) next ∙ sym (take-add m end whole) ∙ ap (λ (k : ℕ). take k whole) (sym e) in
     subst (Appends start after) whole_is (Appends-trans start before after _ _ given grown)
+
+-- a writer that was given the first m bytes of a text, and then a front of its next part, was given a front of it
+pub given_front : (whole part : List ℕ) (m end : ℕ) (start before after : Option (List ℕ)) → part ≡ take end (drop m whole)
+    → AppendsFront before after part → Appends start before (take m whole) → AppendsFront start after whole
+given_front whole part m end start before after next grown given =
+    front_more start before after whole m end given (subst (AppendsFront before after) next grown)
 
 -- with the last line the whole text is sent or waits
 pub whole_waits : (bytes before after : List ℕ) (repeats sent end last : ℕ) → repeats ≡ repeats_before bytes (frames_in bytes)

@@ -3,6 +3,7 @@ use Rattle.std.specs.Prelude.{ℕ, zero, suc, ◌+◌, ◌*◌, ◌%◌, ◌≡�
 use Rattle.std.specs.declared.option.Option.{Option}
 use Rattle.std.specs.Io.KnownBytes.{Appends}
 use Rattle.bits.specs.Lists.{ReadFrom}
+use Rattle.console.specs.Fronts.{AppendsFront}
 use Rattle.order.specs.Order.{default_order}
 use Rattle.receiver.specs.declared.Kind.{Kind}
 use Rattle.receiver.specs.declared.Kind.TheVariants.{Unvoiced, Voiced, Repeat}
@@ -58,9 +59,17 @@ AllPrinted buffer size count = (input : List ℕ) → ReadFrom buffer size input
 abbrev pub AllSent : List ℕ → ℕ → Option (List ℕ) → Option (List ℕ) → Type 0
 AllSent buffer size before after = (input : List ℕ) → ReadFrom buffer size input → Appends before after (printed input)
 
+-- where it ends in an error, that writer was given a front of it, for every such input
+abbrev pub FrontSent : List ℕ → ℕ → Option (List ℕ) → Option (List ℕ) → Type 0
+FrontSent buffer size before after = (input : List ℕ) → ReadFrom buffer size input → AppendsFront before after (printed input)
+
 -- a helper of the code: a writer that was given the first m bytes of a text, and nothing else, then was given the first n
 abbrev pub GivenOn : List ℕ → ℕ → ℕ → Option (List ℕ) → Option (List ℕ) → Type 0
 GivenOn whole m n before after = (start : Option (List ℕ)) → Appends start before (take m whole) → Appends start after (take n whole)
+
+-- a helper of the code: a writer that was given the first m bytes of a text, and nothing else, then was given a front of it
+abbrev pub GivenFront : List ℕ → ℕ → Option (List ℕ) → Option (List ℕ) → Type 0
+GivenFront whole m before after = (start : Option (List ℕ)) → Appends start before (take m whole) → AppendsFront start after whole
 
 -- a helper of the code: of the text so far, `sent` bytes have gone out and the others wait at the front of a buffer, up to `end`
 abbrev pub Pending : List ℕ → ℕ → ℕ → List ℕ → Type 0

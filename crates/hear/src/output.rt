@@ -1,6 +1,7 @@
 // The one place that writes, and the count of what is sent.
-ghost use Rattle.std.specs.Prelude.{◌≡◌, ◌+◌, ◌≤◌, length, take, drop, IfOk, OnOk};
+ghost use Rattle.std.specs.Prelude.{◌≡◌, ◌+◌, ◌≤◌, length, take, drop, IfOk, OnOk, OnErr};
 ghost use Rattle.std.specs.Io.KnownBytes.{Appends};
+ghost use Rattle.console.specs.Fronts.{AppendsFront};
 ghost use Rattle.hear.specs.Call.{text};
 
 use std::io;
@@ -21,7 +22,7 @@ pub(crate) fn nothing() -> Sent
 }
 
 // Sends the first bytes of the buffer, which are those of the text after the sent ones. A writer that tells what it
-// holds holds them then.
+// holds holds them then, and a front of them where the sending fails.
 pub(crate) fn send<W: Write>(
     to: &mut W,
     bytes: &[u8],
@@ -32,8 +33,9 @@ pub(crate) fn send<W: Write>(
     requires { (end ≤ length out.now) × (take end out.now ≡ take end (drop sent.count (text bytes.now))) × (sent.count + end ≤ 2000000) }
     ensures count { IfOk result (λ s. s.count ≡ sent.count + end) }
     ensures written { OnOk result (Appends (W.contents to.old) (W.contents to.new) (take end out.now)) }
+    ensures failed { OnErr result (AppendsFront (W.contents to.old) (W.contents to.new) (take end out.now)) }
 {
-    to.write_all(&out[..end])?;
+    console::write_all(to, &out[..end])?;
     let count = sent.count + end;
     Ok(Sent { count })
 }

@@ -1,9 +1,10 @@
 // The text of a call, sent in large parts.
-ghost use Rattle.std.specs.Prelude.{◌≡◌, ◌+◌, ◌≤◌, length, take, IfOk, OnOk};
+ghost use Rattle.std.specs.Prelude.{◌≡◌, ◌+◌, ◌≤◌, length, take, IfOk, OnOk, OnErr};
 ghost use Rattle.std.specs.Io.KnownBytes.{Appends};
 ghost use Rattle.console.specs.Counts.{IsPrefixLen};
+ghost use Rattle.console.specs.Fronts.{AppendsFront};
 ghost use Rattle.receiver.specs.Frames.{frames_in};
-ghost use Rattle.hear.specs.Call.{repeats_before, text_before, text, most_bytes, AllPrinted, AllSent, GivenOn, Pending};
+ghost use Rattle.hear.specs.Call.{repeats_before, text_before, text, most_bytes, AllPrinted, AllSent, FrontSent, GivenFront, GivenOn, Pending};
 
 use crate::frames::{Progress, begin, take_frame};
 use crate::output::{Sent, send};
@@ -26,6 +27,7 @@ fn make_room<W: Write>(
     ensures pending { IfOk result (λ r. Pending (text_before bytes.now k) r.sent.count r.end out.now) }
     ensures room { IfOk result (λ r. r.end + 144 ≤ 65536) }
     ensures written { IfOk result (λ r. GivenOn (text bytes.now) before.sent.count r.sent.count (W.contents to.old) (W.contents to.new)) }
+    ensures failed { OnErr result (GivenFront (text bytes.now) before.sent.count (W.contents to.old) (W.contents to.new)) }
 {
     if before.end <= 65392 {
         return Ok(before);
@@ -53,6 +55,7 @@ fn print_frames<W: Write>(
     ensures pending { IfOk result (λ r. Pending (text_before bytes.now (frames_in bytes.now)) r.sent.count r.end out.new) }
     ensures bound { IfOk result (λ r. r.end ≤ 65536) }
     ensures written { IfOk result (λ r. Appends (W.contents to.old) (W.contents to.new) (take r.sent.count (text bytes.now))) }
+    ensures failed { OnErr result (AppendsFront (W.contents to.old) (W.contents to.new) (text bytes.now)) }
 {
     let mut progress = begin(end);
     for k in 0..bytes.len() / 7 {
@@ -66,6 +69,7 @@ fn print_text<W: Write>(to: &mut W, bytes: &[u8], out: &mut [u8]) -> io::Result<
     requires { (length bytes.now ≤ 65534) × (length out.old ≡ 65536) }
     ensures count { IfOk result (λ s. s.count ≡ length (text bytes.now)) }
     ensures written { OnOk result (Appends (W.contents to.old) (W.contents to.new) (text bytes.now)) }
+    ensures failed { OnErr result (AppendsFront (W.contents to.old) (W.contents to.new) (text bytes.now)) }
 {
     let first = end_of(report::first_line(out, 0), 0);
     let frames = bytes.len() / 7;
@@ -85,6 +89,7 @@ pub(crate) fn print_call<W: Write>(to: &mut W, input: &[u8], size: usize) -> io:
     requires { (length input.now ≡ most_bytes) × IsPrefixLen size input.now }
     ensures printed { IfOk result (λ s. AllPrinted input.now size s.count) }
     ensures written { OnOk result (AllSent input.now size (W.contents to.old) (W.contents to.new)) }
+    ensures failed { OnErr result (FrontSent input.now size (W.contents to.old) (W.contents to.new)) }
 {
     let mut out = console::large_buffer();
     print_text(to, &input[..size], &mut out)

@@ -1,7 +1,8 @@
 -- `hear::printing::make_room` meets its contract: what waits is the next part of the text, and then nothing waits. Assumes nothing.
 use native.Mathlib.Omega.{arith}
-use Rattle.hear.specs.Call.{text}
-use Rattle.hear.proofs.Buffer.{pending_part, given_more}
+use Rattle.std.proofs.lemmas.Result.{MatchResult-from_err}
+use Rattle.hear.specs.Call.{text, GivenFront}
+use Rattle.hear.proofs.Buffer.{pending_part, given_more, given_front}
 use Rattle.hear.proofs.printing.make_room.Goals as goal
 
 pub send-requires : goal.send-requires
@@ -18,3 +19,12 @@ returns-clause-written g c =
     let n = pending_part a.bytes.now a.out.now a.k b.sent.count b.end c.requires.k_bound.0 c.requires.k_bound.1 in
     let e = c.in_ok-send.ensures in
     λ start given. given_more (text a.bytes.now) _ b.sent.count b.end _ start _ _ e.count n e.written given
+
+pub returns-in_err-send-clause-failed : goal.returns-in_err-send-clause-failed
+returns-in_err-send-clause-failed g c =
+    let a = c.args in
+    let b = a.before in
+    let n = pending_part a.bytes.now a.out.now a.k b.sent.count b.end c.requires.k_bound.0 c.requires.k_bound.1 in
+    let front : GivenFront (text a.bytes.now) b.sent.count (g.W.Write.contents a.to.now) (g.W.Write.contents c.send.new.to) =
+    λ start given. given_front (text a.bytes.now) _ b.sent.count b.end start _ _ n c.in_err-send.ensures.failed given in
+    MatchResult-from_err c.from_residual.result _ _ c.from_residual.ensures.0 (λ _. front)

@@ -3,10 +3,11 @@ use mathlib.Core.Path.{◌≡◌, ap, subst, ◌∙◌}
 use mathlib.Core.List.{List}
 use Prim.Native.Nat.{ℕ}
 use lib.ListN.{length, take}
-use Rattle.std.proofs.lemmas.Result.{IfOk-weaker, on_ok_weaker}
+use Rattle.std.proofs.lemmas.Result.{IfOk-weaker, on_ok_weaker, on_err_weaker}
 use Rattle.std.specs.Io.KnownBytes.{Appends}
 use Rattle.bits.specs.Lists.{ReadFrom}
-use Rattle.hear.specs.Call.{text, most_bytes, heard, AllPrinted, AllSent}
+use Rattle.console.specs.Fronts.{AppendsFront}
+use Rattle.hear.specs.Call.{text, most_bytes, heard, AllPrinted, AllSent, FrontSent}
 use Rattle.hear.specs.declared.output.Sent.{Sent}
 use Rattle.hear.proofs.printing.print_call.Goals as goal
 
@@ -29,3 +30,12 @@ returns-clause-written g c =
     let to_all : Appends before after (text (take a.size a.input.now)) → AllSent a.input.now a.size before after =
     λ given input read. subst (λ (l : List ℕ). Appends before after (text l)) (read_heard a.input.now input a.size c.requires.0 read) given in
     on_ok_weaker c.print_text.result to_all c.print_text.ensures.written
+
+pub returns-clause-failed : goal.returns-clause-failed
+returns-clause-failed g c =
+    let a = c.args in
+    let before = g.W.Write.contents a.to.now in
+    let after = g.W.Write.contents c.print_text.new.to in
+    let to_all : AppendsFront before after (text (take a.size a.input.now)) → FrontSent a.input.now a.size before after =
+    λ given input read. subst (λ (l : List ℕ). AppendsFront before after (text l)) (read_heard a.input.now input a.size c.requires.0 read) given in
+    on_err_weaker c.print_text.result to_all c.print_text.ensures.failed

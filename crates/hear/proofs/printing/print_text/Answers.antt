@@ -5,12 +5,13 @@ use native.Mathlib.Omega.{arith}
 use lib.ListN.{length, take}
 use lib.Seq.{take_all}
 use Rattle.std.specs.Io.KnownBytes.{Appends}
-use Rattle.std.proofs.lemmas.Result.{IfOk-weaker, on_ok_weaker}
+use Rattle.std.proofs.lemmas.Result.{IfOk-weaker, on_ok_weaker, on_err_weaker}
+use Rattle.console.specs.Fronts.{AppendsFront}
 use Rattle.report.specs.Lines.{first_line, last_line}
 use Rattle.receiver.specs.Frames.{frames_in}
 use Rattle.hear.specs.Call.{left_in, text_before, text, Pending}
 use Rattle.text.proofs.Additions.{line_added}
-use Rattle.hear.proofs.Buffer.{given_more, whole_waits, whole_part}
+use Rattle.hear.proofs.Buffer.{given_more, given_front, whole_waits, whole_part}
 use borrow.Author.Rules.{rules}
 use Rattle.hear.specs.declared.output.Sent.{Sent}
 use Rattle.hear.proofs.printing.print_text.Given.{Over}
@@ -63,3 +64,15 @@ returns-clause-written g c =
     let to_whole : Appends (g.W.Write.contents c.make_room.new.to) held (take end c.last_line.new.out) → Appends (g.W.Write.contents c.args.to.now) held (text bytes) =
     λ grown. subst (Appends (g.W.Write.contents c.args.to.now) held) all (given_more (text bytes) _ sent end (sent + end) _ _ held refl (whole_part bytes _ sent end w.0) grown given) in
     on_ok_weaker c.send.result to_whole c.send.ensures.written
+
+pub returns-clause-failed : goal.returns-clause-failed
+returns-clause-failed g c =
+    let w = whole g (goal.at.returns-clause-failed g c).After-end_of-end in
+    let bytes = c.args.bytes.now in
+    let sent = c.in_ok-ready.ready.sent.count in
+    let end = c.end_of-end.result in
+    let given = c.in_ok-ready.ensures.written _ c.in_ok-printed.ensures.written in
+    let held = g.W.Write.contents c.send.new.to in
+    let to_front : AppendsFront (g.W.Write.contents c.make_room.new.to) held (take end c.last_line.new.out) → AppendsFront (g.W.Write.contents c.args.to.now) held (text bytes) =
+    λ grown. given_front (text bytes) _ sent end _ _ held (whole_part bytes _ sent end w.0) grown given in
+    on_err_weaker c.send.result to_front c.send.ensures.failed
