@@ -3,7 +3,7 @@
 stdout of crates/send, crates/to_session and crates/from_session.
 
 Every run writes the same bytes. The sets are synthetic: nobody spoke, and no speech was measured for them. They
-follow the sounds of "sixteen" at 22.5 ms a frame. target/bin/send packs them, and target/bin/to_session makes the
+follow the sounds of "sixteen" at 22.5 ms a frame. crates/send/out/send packs them, and crates/to_session/out/to_session makes the
 session file, so run `rt check send to_session` before.
 """
 import os
@@ -65,7 +65,7 @@ def faded(call, fade):
 
 def made(program, data):
     """What a proved program writes for these bytes."""
-    path = os.path.join(ROOT, "target", "bin", program)
+    path = os.path.join(ROOT, "crates", program, "out", program)
     return subprocess.run([path], input=data, stdout=subprocess.PIPE, check=True).stdout
 
 

@@ -1,5 +1,5 @@
 -- Calls of the code, as they are observed: each is some call of a function of which its contract holds, by the checker's own reading
--- of its `ensures`; of a call in place, whose clauses have no such reading, the equation that each is (`ReceivingCalls.in_place_says`).
+-- of its `ensures`; of a call in place, the equation that each of its clauses is (`ReceivingCalls.in_place_says`).
 use Rattle.std.specs.Prelude.{ℕ, ◌≡◌, Bool, List}
 use seplogic.Ra.Ura.{Ura}
 use prog.Memory.{Memory}
