@@ -4,7 +4,7 @@ stdout of crates/send, crates/to_session and crates/from_session.
 
 Every run writes the same bytes. The sets are synthetic: nobody spoke, and no speech was measured for them. They
 follow the sounds of "sixteen" at 22.5 ms a frame. crates/send/out/send packs them, and crates/to_session/out/to_session makes the
-session file, so run `rt check send to_session` before.
+session file; `rt run` in the folder of each builds it.
 """
 import os
 import subprocess
