@@ -69,6 +69,7 @@ pub fn magnitudes(set: ParameterSet, codebook: &[i64], out: &mut [i64]) -> Value
 
 // What is refused before any row is looked at: for a set in range or not, for the numbers of a codebook that is to have
 // `size` of them, and for the room of an output.
+#[tactic(auto, using(std::proofs::Common::tests))]
 fn values_refusal(ranged: bool, numbers: usize, size: usize, room: usize) -> u8
     ensures { result ≡ first_refusal (early_table ranged numbers size room) }
 {
