@@ -8,7 +8,6 @@ name a capital and a dash become an underscore. Names of the library, the answer
 strings stay as they are. NAMES has the names that would fall together with another one, and what they become.
 """
 import collections
-import glob
 import os
 import re
 import sys
@@ -21,7 +20,7 @@ NAMES = {
     "unvoiced-bytes": "unvoiced_to_bytes",
     "voiced-bytes": "voiced_to_bytes",
 }
-# Lemmas that port.py gave the spelling of another definition: the files, or all.
+# Lemmas that port.py gave the spelling of a definition, and where they stand.
 LEMMAS = {
     "all_seen": ("crates/order/proofs/",),
     "one_bit": ("crates/order/proofs/Seen.antt",),

@@ -1,6 +1,6 @@
 // The frames of an input: an order, and the sets that are packed in it.
 ghost use Rattle.std.specs.Prelude.{◌≡◌, ◌++◌, ◌≤◌, length, drop};
-ghost use Rattle.console.specs.Counts.{IsPrefixLen};
+ghost use Rattle.std.specs.Counts.{IsPrefixLen};
 ghost use Rattle.bench_pack.specs.Inputs.{input_sent};
 
 use set_frames::FramesAnswer;

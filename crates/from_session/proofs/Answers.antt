@@ -6,7 +6,7 @@ use Prim.Native.Nat.{ℕ, ◌≤◌}
 use native.Mathlib.Omega.{arith}
 use lib.ListN.{length, take, drop, length-append, length-take}
 use lib.Seq.{length-take-le, take_at}
-use Rattle.console.specs.Counts.{IsPrefixLen}
+use Rattle.std.specs.Counts.{IsPrefixLen}
 use Rattle.bits.specs.Lists.{ReadFrom}
 use Rattle.text.specs.Placing.{Put}
 use Rattle.text.proofs.Puts.{front_is}

@@ -1,6 +1,6 @@
 // What is written for a session file: its frames, and the line of a refusal.
 ghost use Rattle.std.specs.Prelude.{◌≡◌, ◌≤◌, ◌*◌, length};
-ghost use Rattle.console.specs.Counts.{IsPrefixLen};
+ghost use Rattle.std.specs.Counts.{IsPrefixLen};
 ghost use Rattle.text.specs.Placing.{Put};
 ghost use Rattle.session.specs.Format.{most_frames};
 ghost use Rattle.from_session.specs.Output.{most_input, refusal_line, AllWritten};

@@ -1,7 +1,7 @@
 // The text of a call, sent in large parts.
 ghost use Rattle.std.specs.Prelude.{◌≡◌, ◌+◌, ◌≤◌, length, take, IfOk, OnOk, OnErr};
 ghost use Rattle.std.specs.Io.KnownBytes.{Appends};
-ghost use Rattle.console.specs.Counts.{IsPrefixLen};
+ghost use Rattle.std.specs.Counts.{IsPrefixLen};
 ghost use Rattle.console.specs.Fronts.{AppendsFront};
 ghost use Rattle.receiver.specs.Frames.{frames_in};
 ghost use Rattle.hear.specs.Call.{repeats_before, text_before, text, most_bytes, AllPrinted, AllSent, FrontSent, GivenFront, GivenOn, Pending};

@@ -1,6 +1,6 @@
 // The frames of the sets, in the default order.
 ghost use Rattle.std.specs.Prelude.{◌≡◌, ◌++◌, ◌*◌, ◌≤◌, length, drop};
-ghost use Rattle.console.specs.Counts.{IsPrefixLen};
+ghost use Rattle.std.specs.Counts.{IsPrefixLen};
 ghost use Rattle.order.specs.Order.{default_order};
 ghost use Rattle.set_frames.specs.Sending.{sets_in, sent};
 

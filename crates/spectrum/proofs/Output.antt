@@ -7,7 +7,7 @@ use native.Mathlib.Omega.{arith}
 use lib.ListN.{length, get_or, take}
 use lib.IntN.{ℤ}
 use lib.Seq.{length-take-le}
-use Rattle.console.specs.Counts.{IsPrefixLen}
+use Rattle.std.specs.Counts.{IsPrefixLen}
 use Rattle.value_lines.specs.Lines.{value_line, refusal_line}
 use Rattle.spectrum.specs.Lines.{lines, text_unless}
 

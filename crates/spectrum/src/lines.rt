@@ -1,6 +1,6 @@
 // Values as text: one number a line, or the line of a refusal.
 ghost use Rattle.std.specs.Prelude.{◌≡◌, ◌+◌, ◌≤◌, length, take};
-ghost use Rattle.console.specs.Counts.{IsPrefixLen};
+ghost use Rattle.std.specs.Counts.{IsPrefixLen};
 ghost use Rattle.text.specs.Placing.{Appended};
 ghost use Rattle.spectrum.specs.Lines.{lines, text};
 

@@ -10,7 +10,7 @@ mod lines;
 mod printing;
 mod values;
 
-ghost use Rattle.console.specs.Counts.{IsPrefixLen};
+ghost use Rattle.std.specs.Counts.{IsPrefixLen};
 
 use std::io::Write;
 use std::rt::Files;

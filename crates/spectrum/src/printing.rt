@@ -1,6 +1,6 @@
 // What the program prints for what it has read.
 ghost use Rattle.std.specs.Prelude.{◌≡◌, ◌≤◌, length, take};
-ghost use Rattle.console.specs.Counts.{IsPrefixLen};
+ghost use Rattle.std.specs.Counts.{IsPrefixLen};
 ghost use Rattle.spectrum.specs.Output.{Prints};
 
 use crate::lines::write_text;

@@ -5,7 +5,7 @@ use Prim.Native.Nat.{ℕ, zero, suc, ◌≤◌}
 use native.Mathlib.Omega.{arith}
 use lib.ListN.{length, take, drop, length-append}
 use lib.Seq.{length-take-le, take-append_seam}
-use Rattle.console.specs.Counts.{IsPrefixLen}
+use Rattle.std.specs.Counts.{IsPrefixLen}
 use Rattle.bits.specs.Lists.{written_unless}
 use Rattle.text.specs.Placing.{answer_unless}
 use Rattle.text.specs.declared.LineAnswer.{LineAnswer}

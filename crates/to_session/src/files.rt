@@ -1,6 +1,6 @@
 // The session file of the bytes read.
 ghost use Rattle.std.specs.Prelude.{◌≡◌, length};
-ghost use Rattle.console.specs.Counts.{IsPrefixLen};
+ghost use Rattle.std.specs.Counts.{IsPrefixLen};
 ghost use Rattle.session.specs.Format.{most_text};
 ghost use Rattle.to_session.specs.Output.{most_input, AllWritten};
 
