@@ -8,4 +8,3 @@ pub mod Cut
 pub mod Front
 pub mod Buffers
 pub mod Numbers
-pub mod Refusals

@@ -4,7 +4,7 @@ use mathlib.Core.Bool.{not}
 use mathlib.Core.List.{[], ◌∷◌}
 use lib.ListN.{length}
 use borrow.Author.Tests.{le-ltb}
-use Rattle.bits.specs.Refusals.{first_refusal}
+use Rattle.refusal.specs.Refusals.{first_refusal}
 use Rattle.bits.proofs.Tests.{true_T}
 use Rattle.order.specs.Order.{is_order}
 use Rattle.order.proofs.Orders.{is_order_lem}

@@ -8,7 +8,7 @@ use Prim.Native.Nat.{ℕ, suc}
 use native.Mathlib.Omega.{arith}
 use lib.Dec.{T, ltb}
 use lib.ListN.{length}
-use Rattle.bits.specs.Refusals.{first_refusal}
+use Rattle.refusal.specs.Refusals.{first_refusal}
 use Rattle.bits.proofs.Tests.{T_true}
 use Rattle.order.specs.Order.{Order, is_order}
 use Rattle.order.proofs.Orders.{is_order_only}

@@ -10,7 +10,7 @@ use lib.ListN.{length, drop, length-drop}
 use lib.Seq.{length-take-le}
 use lib.IntN.{ℤ}
 use borrow.Author.Tests.{lt-ltb, eq-eqb}
-use Rattle.bits.specs.Refusals.{first_refusal}
+use Rattle.refusal.specs.Refusals.{first_refusal}
 use Rattle.codebook.specs.Rows.{lsf_size, stage_rows, stage_start, lsf_row, lsf_fits, lsf_row_refusal}
 use Rattle.codebook.specs.Rows.{magnitude_size, magnitude_row, magnitude_fits, magnitude_row_refusal}
 use Rattle.codebook.specs.Rows.{row_at, all_fit, row_unless}

@@ -1,6 +1,6 @@
 -- How the code finds and judges a row of either codebook: by its number among all rows. Helpers of the code, no part of document 01.
 use Rattle.std.specs.Prelude.{ℕ, ◌+◌, ◌*◌, Bool, not, cond, List, [], ◌∷◌, ltb, eqb, length, ℤ}
-use Rattle.bits.specs.Refusals.{Table, first_refusal}
+use Rattle.refusal.specs.Refusals.{Table, first_refusal}
 use Rattle.codebook.specs.Rows.{stage_rows, stage_start, row_at, between, all_fit}
 
 -- the number of a stage's row among all rows; 320, which is no row's, where the stage has no such row

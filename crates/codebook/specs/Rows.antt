@@ -2,7 +2,7 @@
 -- tables IV to VII, the codebook of magnitudes that of 5.3.5 and table VIII. Numbers are in millionths, of a hertz for LSF.
 use Rattle.std.specs.Prelude.{ℕ, zero, suc, ◌+◌, ◌*◌, Bool, true, not, ◌&&◌, cond, List, [], ◌∷◌, leb, ltb, eqb, length, take, drop, ℤ, pos, neg_ℤ}
 use Rattle.std.specs.Int.Signed.{le_z}
-use Rattle.bits.specs.Refusals.{first_refusal}
+use Rattle.refusal.specs.Refusals.{first_refusal}
 
 -- how many numbers the LSF codebook has: the 320 rows of its four stages (5.3.4), ten in a row
 abbrev pub lsf_size : ℕ

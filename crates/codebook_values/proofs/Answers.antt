@@ -10,8 +10,8 @@ use lib.ListN.{length, drop}
 use lib.IntN.{ℤ}
 use borrow.Author.Tests.{ltb-false, eqb-true}
 use Rattle.bits.specs.Lists.{written_unless}
-use Rattle.bits.specs.Refusals.{Table, first_refusal}
-use Rattle.bits.proofs.Refusals.{first_append, append_none}
+use Rattle.refusal.specs.Refusals.{Table, first_refusal}
+use Rattle.refusal.proofs.Refusals.{first_append, append_none}
 use Rattle.sets.specs.Sets.{in_range}
 use Rattle.sets.specs.declared.ParameterSet.{ParameterSet}
 use Rattle.codebook_values.specs.Values.{values_unless}

@@ -1,6 +1,6 @@
 -- How the code checks a call for values: first what needs no row, then the rows in use. Helpers of the code, no part of document 01.
 use Rattle.std.specs.Prelude.{ℕ, Bool, not, [], ◌∷◌, ltb, eqb}
-use Rattle.bits.specs.Refusals.{Table, first_refusal}
+use Rattle.refusal.specs.Refusals.{Table, first_refusal}
 
 -- what refuses values before any row is looked at: too little room, a set out of range, a codebook of another length than its size
 abbrev pub early_table : Bool → ℕ → ℕ → ℕ → Table

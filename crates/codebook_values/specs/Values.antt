@@ -3,7 +3,7 @@
 use Rattle.std.specs.Prelude.{ℕ, zero, suc, Bool, true, not, ◌&&◌, cond, List, [], ◌∷◌, ltb, eqb, length, replicate, ℤ, pos, ◌+ℤ◌, ◌-ℤ◌}
 use Rattle.std.specs.Int.Signed.{lt_z}
 use Rattle.bits.specs.Lists.{written_unless}
-use Rattle.bits.specs.Refusals.{Table, first_refusal}
+use Rattle.refusal.specs.Refusals.{Table, first_refusal}
 use Rattle.sets.specs.Sets.{indices_in, in_range}
 use Rattle.sets.specs.declared.Indices.{Indices}
 use Rattle.sets.specs.declared.ParameterSet.{ParameterSet}

@@ -1,6 +1,6 @@
 // LSF values (MIL-STD-3005, 5.3.4) and Fourier magnitudes (5.3.5) of a parameter set.
 ghost use Rattle.std.specs.Prelude.{◌≡◌, true, ◌++◌, ◌≤◌, length, drop};
-ghost use Rattle.bits.specs.Refusals.{first_refusal};
+ghost use Rattle.refusal.specs.Refusals.{first_refusal};
 ghost use Rattle.codebook_values.specs.Values.{rows_values, rows_fit, lsf_answer, lsf_writes, magnitudes_answer, magnitudes_writes};
 ghost use Rattle.codebook_values.specs.Checks.{early_table};
 

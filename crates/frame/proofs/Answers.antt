@@ -8,7 +8,7 @@ use native.Mathlib.Omega.{arith}
 use lib.ListN.{length, get_or, drop}
 use borrow.Author.Tests.{lt-ltb, le-ltb}
 use Rattle.bits.specs.Bits.{value, bits, carried}
-use Rattle.bits.specs.Refusals.{first_refusal}
+use Rattle.refusal.specs.Refusals.{first_refusal}
 use Rattle.bits.proofs.Digits.{bits_value}
 use Rattle.order.specs.Order.{is_order, frame_of}
 use Rattle.order.specs.Placing.{placed_unless, placed_bits}

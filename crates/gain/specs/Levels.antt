@@ -1,6 +1,6 @@
 -- Document 01, "Gain levels" (5.3.3): the level of a second code G2, and the first level of a frame, after a frame whose second code is q.
 use Rattle.std.specs.Prelude.{ℕ, zero, suc, ◌+◌, ◌-◌, ◌*◌, ◌/◌, min, not, ◌&&◌, [], ◌∷◌, leb}
-use Rattle.bits.specs.Refusals.{first_refusal}
+use Rattle.refusal.specs.Refusals.{first_refusal}
 use Rattle.gain.specs.declared.LevelAnswer.{LevelAnswer}
 use Rattle.gain.specs.declared.LevelAnswer.TheVariants.{Level, Refused}
 

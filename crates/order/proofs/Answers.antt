@@ -9,7 +9,7 @@ use lib.Dec.{eqb}
 use lib.ListN.{length, get_or}
 use borrow.Author.Tests.{eq-eqb, ne_eqb}
 use Rattle.bits.specs.Bits.{ones, value, cut, carried}
-use Rattle.bits.specs.Refusals.{first_refusal}
+use Rattle.refusal.specs.Refusals.{first_refusal}
 use Rattle.bits.proofs.Cut.{cut_ext}
 use Rattle.bits.proofs.Numbers.{value_more, carried_back}
 use Rattle.order.specs.Order.{Order, is_order, place_of, bit_at, logical_bit, padding, frame_refusal}

@@ -9,7 +9,7 @@ use native.Mathlib.Omega.{arith}
 use lib.Dec.{lit<}
 use lib.ListN.{get_or, replicate}
 use Rattle.bits.specs.Bits.{bit_num, value, bit, cut, carried}
-use Rattle.bits.specs.Refusals.{first_refusal}
+use Rattle.refusal.specs.Refusals.{first_refusal}
 use Rattle.bits.proofs.Bitwise.{bit_up}
 use Rattle.bits.proofs.Digits.{bit_is, bits_at}
 use Rattle.bits.proofs.Numbers.{bit_more, value_more, carried_back}

@@ -9,7 +9,7 @@ use lib.Dec.{eqb, ltb, lit<}
 use lib.ListN.{length, get_or}
 use borrow.Author.Tests.{eq-eqb, eqb-true}
 use Rattle.bits.specs.Bits.{◌⊻◌, ones}
-use Rattle.bits.specs.Refusals.{first_refusal}
+use Rattle.refusal.specs.Refusals.{first_refusal}
 use Rattle.bits.proofs.Cut.{cut_length}
 use Rattle.bits.proofs.Tests.{T_true, true_T}
 use Rattle.order.specs.Order.{Order, is_order, byte_of, frame_of, bit_at, logical_bit, padding, frame_refusal, through}

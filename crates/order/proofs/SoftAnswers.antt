@@ -8,8 +8,8 @@ use lib.Dec.{eqb}
 use lib.ListN.{length, replicate}
 use borrow.Author.Tests.{eq-eqb, ne_eqb}
 use Rattle.bits.specs.Bits.{ones, cut}
-use Rattle.bits.specs.Refusals.{first_refusal}
-use Rattle.bits.proofs.Refusals.{first_append}
+use Rattle.refusal.specs.Refusals.{first_refusal}
+use Rattle.refusal.proofs.Refusals.{first_append}
 use Rattle.bits.proofs.Tests.{true_T}
 use Rattle.order.specs.Order.{is_order, frame_table}
 use Rattle.order.specs.Taking.{bits_answer}

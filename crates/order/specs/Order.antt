@@ -3,7 +3,7 @@
 use Rattle.std.specs.Prelude.{ℕ, zero, suc, ◌*◌, ◌/◌, ◌%◌, ◌<◌, ◌≡◌, Bool, false, not, cond, ◌&&◌, List, [], ◌∷◌, ◌++◌, T, eqb, ltb, length, get_or}
 use Rattle.bits.specs.Bits.{◌⊻◌, add_one, ones, value, bits, cut}
 use Rattle.bits.specs.Lists.{every}
-use Rattle.bits.specs.Refusals.{Table, first_refusal}
+use Rattle.refusal.specs.Refusals.{Table, first_refusal}
 
 -- how often a number stands in a list
 abbrev pub times : ℕ → List ℕ → ℕ

@@ -1,6 +1,6 @@
 -- Document 02, T-07: the frame of 54 logical bits in an order, or its refusal.
 use Rattle.std.specs.Prelude.{ℕ, zero, suc, Bool, List, replicate}
-use Rattle.bits.specs.Refusals.{first_refusal}
+use Rattle.refusal.specs.Refusals.{first_refusal}
 use Rattle.order.specs.Order.{frame_of, order_table}
 use Rattle.order.specs.declared.Placed.{Placed}
 

@@ -1,7 +1,7 @@
 -- Document 02, T-05: the logical bits of a frame in an order, each with the confidence of its place, from 0 to 255, or its refusal.
 use Rattle.std.specs.Prelude.{ℕ, zero, suc, ◌<◌, ◌≡◌, not, List, [], ◌∷◌, ◌++◌, eqb, length, get_or, replicate}
 use Rattle.bits.specs.Bits.{cut}
-use Rattle.bits.specs.Refusals.{Table, first_refusal}
+use Rattle.refusal.specs.Refusals.{Table, first_refusal}
 use Rattle.order.specs.Order.{Order, place_of, frame_table}
 use Rattle.order.specs.Taking.{bits_number}
 use Rattle.order.specs.declared.SoftBits.{SoftBits}

@@ -3,7 +3,8 @@ ghost use Rattle.std.specs.Prelude.{◌≡◌, ◌<◌};
 ghost use Rattle.bits.specs.Bits.{bits};
 ghost use Rattle.pitch.specs.Pitch.{index, class_of, class_answer};
 
-use crate::{ClassAnswer, PitchClass};
+use crate::PitchClass;
+use refusal::Refusal;
 
 // The index of a seven-bit code, taken as a voiced one.
 fn index_of(code: u8) -> u8
@@ -18,7 +19,7 @@ fn class_of(code: u8) -> PitchClass
     requires { code < 128 }
     ensures { result ≡ class_of (bits 7 code) }
 {
-    let ones = u8::count_ones(code);
+    let ones = code.count_ones();
     if ones < 2 {
         return PitchClass::Unvoiced;
     }
@@ -29,13 +30,13 @@ fn class_of(code: u8) -> PitchClass
 }
 
 // The class of a code; past 127 there is none.
-pub fn classify(code: u8) -> ClassAnswer
+pub fn classify(code: u8) -> Result<PitchClass, Refusal>
     ensures { result ≡ class_answer code }
 {
     if code < 128 {
-        ClassAnswer::Class(class_of(code))
+        Ok(class_of(code))
     } else {
-        ClassAnswer::Refused(5)
+        Err(Refusal::OutOfRange)
     }
 }
 

@@ -2,16 +2,16 @@
 ghost use Rattle.std.specs.Prelude.{◌≡◌};
 ghost use Rattle.pitch.specs.Pitch.{code_answer};
 
-use crate::CodeAnswer;
+use refusal::Refusal;
 
 // The code of an index; past 98 there is none.
-pub fn encode(index: u8) -> CodeAnswer
+pub fn encode(index: u8) -> Result<u8, Refusal>
     ensures { result ≡ code_answer index }
 {
     if 98 < index {
-        return CodeAnswer::Refused(5);
+        return Err(Refusal::OutOfRange);
     }
-    CodeAnswer::Code(CODES[index as usize])
+    Ok(CODES[index as usize])
 }
 
 // The codes with at least three ones, rising.

@@ -14,17 +14,3 @@ pub enum PitchClass {
     Erased,
     Voiced(u8),
 }
-
-// The class of a code, or the refusal of a number that is no code.
-#[derive(Clone, Copy)]
-pub enum ClassAnswer {
-    Class(PitchClass),
-    Refused(u8),
-}
-
-// The code of an index, or the refusal of a number that is no index.
-#[derive(Clone, Copy)]
-pub enum CodeAnswer {
-    Code(u8),
-    Refused(u8),
-}

@@ -1,7 +1,7 @@
 -- Document 01, "Gain levels" (5.3.3, 5.3.7): choosing codes from a first and a second level, and q, the second code before.
 use Rattle.std.specs.Prelude.{ℕ, zero, suc, ◌+◌, Bool, not, ◌&&◌, cond, [], ◌∷◌, leb, ltb, ℤ, pos, neg_ℤ, nat_abs, ◌-ℤ◌}
 use Rattle.std.specs.Int.Signed.{le_z}
-use Rattle.bits.specs.Refusals.{first_refusal}
+use Rattle.refusal.specs.Refusals.{first_refusal}
 use Rattle.gain.specs.Levels.{level, apart, mean, first_level}
 use Rattle.quantiser.specs.declared.CodesAnswer.{CodesAnswer}
 use Rattle.quantiser.specs.declared.CodesAnswer.TheVariants.{Codes, Refused}

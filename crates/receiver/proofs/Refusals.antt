@@ -9,9 +9,9 @@ use lib.Dec.{T, eqb}
 use lib.ListN.{length}
 use borrow.Author.Tests.{eq-eqb}
 use Rattle.bits.specs.Bits.{ones}
-use Rattle.bits.specs.Refusals.{Table, first_refusal}
+use Rattle.refusal.specs.Refusals.{Table, first_refusal}
 use Rattle.bits.proofs.Tests.{true_T}
-use Rattle.bits.proofs.Refusals.{first_append}
+use Rattle.refusal.proofs.Refusals.{first_append}
 use Rattle.order.specs.Order.{is_order, logical_bit, frame_table, frame_refusal}
 use Rattle.order.proofs.Orders.{is_order_lem}
 use Rattle.order.proofs.Refusals.{frame_taken_only}

@@ -4,7 +4,7 @@ use mathlib.Core.Path.{◌≡◌, refl, sym, ap, ◌∙◌}
 use mathlib.Core.List.{List, [], append_assoc}
 use Prim.Native.Nat.{ℕ, zero, suc, ◌<◌}
 use native.Mathlib.Omega.{arith}
-use Rattle.bits.specs.Refusals.{first_refusal}
+use Rattle.refusal.specs.Refusals.{first_refusal}
 use lib.ListN.{length, replicate, length-replicate, get_or-replicate}
 use borrow.Author.Tests.{eq-eqb}
 use Rattle.order.specs.Order.{Order, place_of, logical_bit, frame_table}

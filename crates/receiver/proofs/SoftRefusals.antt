@@ -8,8 +8,8 @@ use native.Mathlib.Omega.{arith}
 use lib.Dec.{T, eqb}
 use lib.ListN.{length}
 use borrow.Author.Tests.{eqb-true}
-use Rattle.bits.specs.Refusals.{first_refusal}
-use Rattle.bits.proofs.Refusals.{first_append, append_none}
+use Rattle.refusal.specs.Refusals.{first_refusal}
+use Rattle.refusal.proofs.Refusals.{first_append, append_none}
 use Rattle.order.specs.Order.{logical_bit, frame_table, frame_refusal}
 use Rattle.order.specs.SoftTaking.{confidence_of, confidence_table}
 use Rattle.reading.specs.SoftReading.{soft_read}

@@ -5,7 +5,7 @@ use mathlib.Core.Bool.{Bool, not, ◌&&◌, and-true}
 use mathlib.Core.List.{List, [], ◌∷◌, ◌++◌}
 use Prim.Native.Nat.{ℕ, zero, suc}
 use lib.Dec.{eqb_refl}
-use Rattle.bits.specs.Refusals.{Table, first_refusal}
+use Rattle.refusal.specs.Refusals.{Table, first_refusal}
 use Rattle.bits.proofs.Tests.{true_T}
 use Rattle.order.specs.Order.{logical_bit, frame_table}
 use Rattle.reading.specs.Reading.{read}

@@ -1,7 +1,7 @@
 -- The receiver with a record that does not hold how many of its kinds are repeats (document 01, "Receiver"): mute goes by a count of them at each frame.
 -- Bits are read by the rules of today (document 02, T-02 and T-05), in any order. It stands for T-06 alone: what a record taken over has to lead to.
 use Rattle.std.specs.Prelude.{ℕ, zero, suc, Bool, List, ◌++◌}
-use Rattle.bits.specs.Refusals.{first_refusal}
+use Rattle.refusal.specs.Refusals.{first_refusal}
 use Rattle.order.specs.Order.{logical_bit, frame_table}
 use Rattle.order.specs.Fields.{sync_bit}
 use Rattle.order.specs.SoftTaking.{confidence_of, confidence_table}

@@ -1,6 +1,6 @@
 -- Document 01, "Receiver" and "Refusals by place", with document 02, T-07: what a receiving call answers and the record it gives, in the order that it is lent.
 use Rattle.std.specs.Prelude.{ℕ, not, List, [], ◌∷◌, ◌++◌}
-use Rattle.bits.specs.Refusals.{Table, first_refusal}
+use Rattle.refusal.specs.Refusals.{Table, first_refusal}
 use Rattle.order.specs.Order.{logical_bit, frame_table}
 use Rattle.order.specs.Fields.{sync_bit}
 use Rattle.reading.specs.Reading.{read}

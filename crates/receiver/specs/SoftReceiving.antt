@@ -1,6 +1,6 @@
 -- Document 02, T-05 and T-07: what a receiving call answers that is given a confidence for each place, and the record it gives, in the order that it is lent.
 use Rattle.std.specs.Prelude.{ℕ, Bool, List, ◌++◌}
-use Rattle.bits.specs.Refusals.{Table, first_refusal}
+use Rattle.refusal.specs.Refusals.{Table, first_refusal}
 use Rattle.order.specs.Order.{logical_bit, frame_table}
 use Rattle.order.specs.SoftTaking.{confidence_of, confidence_table}
 use Rattle.order.specs.Fields.{sync_bit}

@@ -1,7 +1,7 @@
 -- Document 02, T-06: what is claimed of a record that was taken over, and of one call with it, with or without confidences, in any order of the bits.
 -- Nothing is asked of the old record or of the frame: what the old receiver refuses is refused with the same number. Lists of calls: `calls:TakenOver`.
 use Rattle.std.specs.Prelude.{ℕ, ◌≡◌, List}
-use Rattle.bits.specs.Refusals.{first_refusal}
+use Rattle.refusal.specs.Refusals.{first_refusal}
 use Rattle.records.specs.Records.{valid}
 use Rattle.records.specs.OldRecords.{valid_old, old_refusal, with_count}
 use Rattle.records.specs.declared.OldRecord.{OldRecord}

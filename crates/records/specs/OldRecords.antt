@@ -1,6 +1,6 @@
 -- Document 02, T-06: the record of the receivers in service, which does not hold how many of its kinds are repeats, and the record that takes its place.
 use Rattle.std.specs.Prelude.{ℕ, Bool, not, [], ◌∷◌}
-use Rattle.bits.specs.Refusals.{Table, first_refusal}
+use Rattle.refusal.specs.Refusals.{Table, first_refusal}
 use Rattle.records.specs.declared.OldRecord.{OldRecord}
 use Rattle.records.specs.declared.Record.{Record}
 use Rattle.records.specs.declared.TakenOver.{TakenOver}

@@ -2,7 +2,7 @@
 use Rattle.std.specs.Prelude.{ℕ, ◌*◌, ◌/◌, ◌%◌, Bool, false, not, ◌&&◌, ◌||◌, List, [], ◌∷◌, ◌++◌, ltb, leb, eqb, length, take, drop}
 use Rattle.bits.specs.Bits.{ones, cut}
 use Rattle.bits.specs.Lists.{written_unless}
-use Rattle.bits.specs.Refusals.{Table, first_refusal}
+use Rattle.refusal.specs.Refusals.{Table, first_refusal}
 use Rattle.order.specs.Order.{padding}
 use Rattle.text.specs.Placing.{answer_unless}
 use Rattle.text.specs.declared.LineAnswer.{LineAnswer}

@@ -9,7 +9,7 @@ use lib.ListN.{length, take, drop}
 use lib.Seq.{take-append_seam}
 use borrow.Author.Tests.{le-ltb, le-leb, eq-eqb}
 use Rattle.bits.specs.Lists.{Every, written_unless}
-use Rattle.bits.specs.Refusals.{first_refusal}
+use Rattle.refusal.specs.Refusals.{first_refusal}
 use Rattle.text.specs.declared.LineAnswer.TheVariants.{Written}
 use Rattle.session.specs.Format.{session_text, most_frames}
 use Rattle.session.specs.Writing.{frames_of, joined, is_whole, is_padded, any_padded, text_of, write_refusal, write_answer, write_writes}

@@ -8,7 +8,7 @@ use lib.Dec.{leb}
 use lib.ListN.{length, take, drop}
 use lib.Seq.{drop-drop}
 use borrow.Author.Tests.{leb-true}
-use Rattle.bits.specs.Refusals.{first_refusal}
+use Rattle.refusal.specs.Refusals.{first_refusal}
 use Rattle.text.specs.Text.{ascii, decimal}
 use Rattle.session.specs.Format.{file_line, order_line, count_line, header, most_frames}
 use Rattle.session_lines.specs.Lines.{line_of, same_bytes, digits_value, count_of, is_count_line}

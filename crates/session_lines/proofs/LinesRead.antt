@@ -4,7 +4,7 @@ use mathlib.Core.Bool.{Bool, true, false, not}
 use mathlib.Core.List.{List, [], ◌∷◌}
 use Prim.Native.Nat.{ℕ, zero, suc}
 use native.Mathlib.Omega.{arith}
-use Rattle.bits.specs.Refusals.{first_refusal}
+use Rattle.refusal.specs.Refusals.{first_refusal}
 use Rattle.session.specs.Writing.{is_padded}
 use Rattle.session_lines.specs.Lines.{is_frame_line, frame_of, line_refusal, frame_unless, frame_read}
 use Rattle.session_lines.specs.Headers.{bad_header_line, frames_in, first_place, told_unless, header_of}

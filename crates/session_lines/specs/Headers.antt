@@ -1,6 +1,6 @@
 -- Document 02, T-01: the three lines before the frames, each judged in turn.
 use Rattle.std.specs.Prelude.{ℕ, zero, suc, ◌+◌, not, List, [], ◌∷◌, length}
-use Rattle.bits.specs.Refusals.{first_refusal}
+use Rattle.refusal.specs.Refusals.{first_refusal}
 use Rattle.session.specs.Format.{file_line, order_line, header}
 use Rattle.session_lines.specs.Lines.{line_at, same_bytes, count_of, is_count_line}
 use Rattle.session_lines.specs.declared.header.Header.{Header}

@@ -1,7 +1,7 @@
 -- Document 02, T-01: the lines of a text, and which of them belong in a session file. Each is judged with its end.
 use Rattle.std.specs.Prelude.{ℕ, zero, suc, ◌+◌, ◌-◌, ◌*◌, ◌<◌, ◌≡◌, Bool, true, false, not, ◌&&◌, ◌||◌, cond, List, [], ◌∷◌, ltb, leb, eqb, length, take, drop, replicate}
 use Rattle.bits.specs.Lists.{Every}
-use Rattle.bits.specs.Refusals.{Table, first_refusal}
+use Rattle.refusal.specs.Refusals.{Table, first_refusal}
 use Rattle.text.specs.Text.{ascii}
 use Rattle.session.specs.Format.{count_line, most_frames}
 use Rattle.session.specs.Writing.{is_padded}

@@ -6,7 +6,7 @@ use native.Mathlib.Omega.{arith}
 use lib.IntN.{ℤ}
 use lib.ListN.{length}
 use Rattle.bits.specs.Lists.{Every}
-use Rattle.bits.specs.Refusals.{first_refusal}
+use Rattle.refusal.specs.Refusals.{first_refusal}
 use Rattle.sets.specs.declared.ParameterSet.{ParameterSet}
 use Rattle.codebook_values.specs.Values.{lsf_table, lsf_refusal, lsf_answer, lsf_writes, magnitudes_table, magnitudes_refusal, magnitudes_answer, magnitudes_writes}
 use Rattle.codebook_values.specs.declared.ValuesAnswer.{ValuesAnswer}

@@ -6,7 +6,7 @@ use Prim.Native.Nat.{ℕ, zero, suc, ◌≤◌}
 use native.Mathlib.Omega.{arith}
 use borrow.Author.Tests.{ne_eqb}
 use Rattle.bits.specs.Lists.{Every}
-use Rattle.bits.specs.Refusals.{Table, first_refusal}
+use Rattle.refusal.specs.Refusals.{Table, first_refusal}
 use Rattle.codebook_values.specs.Values.{values_unless}
 use Rattle.codebook_text.specs.Text.{filled_unless}
 use Rattle.spectrum.specs.Values.{text_number, values_number, first_of}

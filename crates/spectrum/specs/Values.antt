@@ -1,7 +1,7 @@
 -- Document 01, "LSF and magnitude values": what the program finds for a frame and the texts of two codebooks. A refusal of the frame comes
 -- first, then one of a text, then one of a row.
 use Rattle.std.specs.Prelude.{ℕ, zero, suc, not, List, [], ◌∷◌, ◌++◌, eqb, replicate, ℤ, pos}
-use Rattle.bits.specs.Refusals.{first_refusal}
+use Rattle.refusal.specs.Refusals.{first_refusal}
 use Rattle.order.specs.Order.{default_order}
 use Rattle.sets.specs.declared.ParameterSet.{ParameterSet}
 use Rattle.records.specs.Records.{fresh}

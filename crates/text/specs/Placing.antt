@@ -1,7 +1,7 @@
 -- A text put into a lent buffer from `at` on. A buffer that ends before the text does is refused with 1, document 01's number for an output
 -- that is too short; everything past the text, and before it, stays as it was.
 use Rattle.std.specs.Prelude.{ℕ, zero, suc, ◌+◌, ◌≤◌, ◌≡◌, Bool, cond, List, [], ◌∷◌, ◌++◌, ltb, length, take, drop}
-use Rattle.bits.specs.Refusals.{first_refusal}
+use Rattle.refusal.specs.Refusals.{first_refusal}
 use Rattle.text.specs.declared.LineAnswer.{LineAnswer}
 use Rattle.text.specs.declared.LineAnswer.TheVariants.{Written, Refused}
 

@@ -6,7 +6,7 @@ use Prim.Native.Nat.{ℕ}
 use native.Mathlib.Omega.{arith}
 use lib.ListN.{length}
 use borrow.Author.Tests.{le-ltb}
-use Rattle.bits.specs.Refusals.{first_refusal}
+use Rattle.refusal.specs.Refusals.{first_refusal}
 use Rattle.session.specs.Writing.{is_whole, any_padded, frames_of, text_of}
 use Rattle.session.proofs.Frames.{whole_parts}
 use Rattle.session.proofs.Texts.{text_le}

@@ -6,7 +6,7 @@ use Prim.Native.Nat.{ℕ}
 use lib.Dec.{eqb}
 use lib.IntN.{ℤ}
 use lib.ListN.{length}
-use Rattle.bits.specs.Refusals.{first_refusal}
+use Rattle.refusal.specs.Refusals.{first_refusal}
 use Rattle.codebook.specs.Rows.{row_at, lsf_size, lsf_fits, all_fit, row_unless}
 use Rattle.codebook.specs.RowNumbers.{row_table}
 use Rattle.codebook.proofs.StageRows.{row_number_is}

@@ -4,7 +4,7 @@ use mathlib.Core.Bool.{Bool}
 use Prim.Native.Nat.{ℕ}
 use lib.Dec.{eqb}
 use lib.ListN.{length}
-use Rattle.bits.specs.Refusals.{first_refusal}
+use Rattle.refusal.specs.Refusals.{first_refusal}
 use Rattle.codebook.specs.Rows.{row_at, lsf_size, lsf_fits, all_fit}
 use Rattle.codebook.specs.RowNumbers.{row_table}
 use Rattle.codebook.proofs.StageRows.{row_number_is}

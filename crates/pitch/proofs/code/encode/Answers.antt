@@ -6,7 +6,7 @@ use lib.ListN.{get_or}
 use borrow.Author.Tests.{lt-ltb, le-ltb}
 use Rattle.bits.proofs.Tests.{equal_at}
 use Rattle.pitch.specs.Pitch.{voiced_from, code_of, code_answer}
-use Rattle.pitch.specs.declared.CodeAnswer.TheVariants.{Code}
+use Rattle.std.specs.Prelude.{Ok}
 use Rattle.pitch.proofs.code.encode.Goals as goal
 
 table : List ℕ
@@ -29,4 +29,4 @@ pub returns : goal.returns
 unfolding table code_answer
 returns c =
     let h = suc-le-suc c.if-index-gt98.false in
-    simp (lt-ltb _ 99 h) (ap Code (table_is _ h))
+    simp (lt-ltb _ 99 h) (ap Ok (table_is _ h))

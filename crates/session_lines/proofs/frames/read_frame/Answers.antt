@@ -6,7 +6,7 @@ use Prim.Native.Nat.{ℕ, ◌%◌}
 use lib.Dec.{eqb}
 use lib.ListN.{get_or}
 use borrow.Author.Tests.{eq-eqb, ne_eqb}
-use Rattle.bits.specs.Refusals.{first_refusal}
+use Rattle.refusal.specs.Refusals.{first_refusal}
 use Rattle.session.specs.Writing.{is_padded}
 use Rattle.session.proofs.Padding.{padded_is}
 use Rattle.session_lines.specs.Lines.{line_at, is_frame_line, frame_of, frame_unless, frame_read}
