@@ -4,12 +4,3 @@
 mod levels;
 
 pub use levels::{first_level, level};
-
-// The answer to a call for a level.
-#[derive(Clone, Copy)]
-pub enum LevelAnswer {
-    // The level, in units of 1/186 dB.
-    Level(u32),
-    // The number of the refusal.
-    Refused(u8),
-}
