@@ -3,18 +3,20 @@
 use mathlib.Core.Path.{◌≡◌, refl, sym, ap, ◌∙◌}
 use mathlib.Core.Bool.{Bool, true, false, not}
 use mathlib.Core.List.{List, [], ◌∷◌}
-use Prim.Native.Nat.{ℕ, zero, suc, ◌+◌, ◌*◌, ◌-◌, ◌%◌, ◌≤◌, ◌<◌}
+use Prim.Native.Nat.{ℕ, ◌+◌, ◌*◌, ◌-◌, ◌%◌, ◌≤◌, ◌<◌}
 use native.Mathlib.Omega.{arith}
 use lib.Dec.{eqb}
 use lib.ListN.{length, get_or}
 use borrow.Author.Tests.{eq-eqb, ne_eqb}
 use Rattle.bits.specs.Bits.{ones, value, cut, carried}
-use Rattle.refusal.specs.Refusals.{first_refusal}
+use Rattle.std.specs.Prelude.{Option, None, Some, Ok, Err}
+use Rattle.refusal.specs.Refusals.{first_refusal, unless}
+use Rattle.refusal.specs.declared.Refusal.{Refusal}
+use Rattle.refusal.specs.declared.Refusal.TheVariants.{FrameLength, PaddingBits, InvalidOrder}
 use Rattle.bits.proofs.Cut.{cut_ext}
 use Rattle.bits.proofs.Numbers.{value_more, carried_back}
 use Rattle.order.specs.Order.{Order, is_order, place_of, bit_at, logical_bit, padding, frame_refusal}
-use Rattle.order.specs.Taking.{bits_number, bits_unless, bits_answer}
-use Rattle.order.specs.declared.BitsAnswer.TheVariants.{Bits, Refused}
+use Rattle.order.specs.Taking.{bits_number, bits_answer}
 use Rattle.order.proofs.Bytes.{byte_back, padding_is}
 use Rattle.order.proofs.Places.{place_lt}
 
@@ -56,44 +58,44 @@ module _ (bytes : List ℕ) where
 
     -- the answer by what the table tests
     owes : (a b c : Bool) → eqb (length bytes) 7 ≡ a → is_order ord ≡ b → eqb (get_or bytes 6 0 % 4) 0 ≡ c
-        → bits_unless (first_refusal ((not a, 2) ∷ (not b, 10) ∷ (not c, 3) ∷ [])) ord bytes ≡ bits_answer ord bytes
+        → unless (first_refusal ((not a, FrameLength) ∷ (not b, InvalidOrder) ∷ (not c, PaddingBits) ∷ [])) (bits_number ord bytes) ≡ bits_answer ord bytes
     unfolding bits_answer
     owes a b c e f p =
         let p' = padding_test ∙ p in
-        sym (λ i. bits_unless (first_refusal ((not (e i), 2) ∷ (not (f i), 10) ∷ (not (p' i), 3) ∷ [])) ord bytes)
+        sym (λ i. unless (first_refusal ((not (e i), FrameLength) ∷ (not (f i), InvalidOrder) ∷ (not (p' i), PaddingBits) ∷ [])) (bits_number ord bytes))
 
     -- a frame of another length
-    pub length_owes : (length bytes ≡ 7 → ⊥) → Refused 2 ≡ bits_answer ord bytes
+    pub length_owes : (length bytes ≡ 7 → ⊥) → Err FrameLength ≡ bits_answer ord bytes
     length_owes h = owes false (is_order ord) (eqb (get_or bytes 6 0 % 4) 0) (ne_eqb (length bytes) 7 h) refl refl
 
     module _ (h : length bytes ≡ 7) where
       -- a list that is no order
-      pub order_owes : is_order ord ≡ false → Refused 10 ≡ bits_answer ord bytes
+      pub order_owes : is_order ord ≡ false → Err InvalidOrder ≡ bits_answer ord bytes
       order_owes f = owes true false (eqb (get_or bytes 6 0 % 4) 0) (eq-eqb (length bytes) 7 h) f refl
 
       -- a set bit in the padding
-      pub padding_owes : is_order ord ≡ true → (get_or bytes 6 0 % 4 ≡ 0 → ⊥) → Refused 3 ≡ bits_answer ord bytes
+      pub padding_owes : is_order ord ≡ true → (get_or bytes 6 0 % 4 ≡ 0 → ⊥) → Err PaddingBits ≡ bits_answer ord bytes
       padding_owes f p = owes true true false (eq-eqb (length bytes) 7 h) f (ne_eqb (get_or bytes 6 0 % 4) 0 p)
 
       -- the 54 bits
-      pub bits_owes : is_order ord ≡ true → get_or bytes 6 0 % 4 ≡ 0 → (w : ℕ) → w ≡ bits_number ord bytes → Bits w ≡ bits_answer ord bytes
-      bits_owes f p w e = ap Bits e ∙ owes true true true (eq-eqb (length bytes) 7 h) f (eq-eqb (get_or bytes 6 0 % 4) 0 p)
+      pub bits_owes : is_order ord ≡ true → get_or bytes 6 0 % 4 ≡ 0 → (w : ℕ) → w ≡ bits_number ord bytes → Ok w ≡ bits_answer ord bytes
+      bits_owes f p w e = ap Ok e ∙ owes true true true (eq-eqb (length bytes) 7 h) f (eq-eqb (get_or bytes 6 0 % 4) 0 p)
 
 module _ (ord bytes : List ℕ) where
   -- bits are taken from a frame that is not refused, and are its logical bits
-  pub bits_taken : (n : ℕ) → bits_answer ord bytes ≡ Bits n → (frame_refusal ord bytes ≡ 0) × (n ≡ bits_number ord bytes)
+  pub bits_taken : (n : ℕ) → bits_answer ord bytes ≡ Ok n → (frame_refusal ord bytes ≡ None) × (n ≡ bits_number ord bytes)
   unfolding bits_answer
   bits_taken n e = go (frame_refusal ord bytes) refl e
     where
-      go : (m : ℕ) → frame_refusal ord bytes ≡ m → bits_unless m ord bytes ≡ Bits n → (frame_refusal ord bytes ≡ 0) × (n ≡ bits_number ord bytes)
-      go zero f e = (f, cc)
-      go (suc m) f e = let z : ◌≡◌ {A = ℕ} 0 1 = cc in absurd (omega arith)
+      go : (m : Option Refusal) → frame_refusal ord bytes ≡ m → unless m (bits_number ord bytes) ≡ Ok n → (frame_refusal ord bytes ≡ None) × (n ≡ bits_number ord bytes)
+      go None f e = (f, cc)
+      go (Some r) f e = (cc, cc)
 
   -- and from no other
-  pub bits_refused : (n : ℕ) → bits_answer ord bytes ≡ Refused n → (m : ℕ) × (frame_refusal ord bytes ≡ suc m) × (n ≡ suc m)
+  pub bits_refused : (r : Refusal) → bits_answer ord bytes ≡ Err r → frame_refusal ord bytes ≡ Some r
   unfolding bits_answer
-  bits_refused n e = go (frame_refusal ord bytes) refl e
+  bits_refused r e = go (frame_refusal ord bytes) refl e
     where
-      go : (k : ℕ) → frame_refusal ord bytes ≡ k → bits_unless k ord bytes ≡ Refused n → (m : ℕ) × (frame_refusal ord bytes ≡ suc m) × (n ≡ suc m)
-      go zero f e = let z : ◌≡◌ {A = ℕ} 0 1 = cc in absurd (omega arith)
-      go (suc m) f e = (m, f, cc)
+      go : (m : Option Refusal) → frame_refusal ord bytes ≡ m → unless m (bits_number ord bytes) ≡ Err r → frame_refusal ord bytes ≡ Some r
+      go None f e = cc
+      go (Some g) f e = cc

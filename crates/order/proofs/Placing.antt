@@ -7,14 +7,16 @@ use Prim.Native.Nat.{ℕ, suc, ◌+◌, ◌*◌, ◌-◌, ◌/◌, ◌%◌, ◌^
 use native.Mathlib.Nat.{mod-lt, zero-add, add-zero}
 use native.Mathlib.Omega.{arith}
 use lib.Dec.{lit<}
-use lib.ListN.{get_or, replicate}
+use lib.ListN.{get_or}
 use Rattle.bits.specs.Bits.{bit_num, value, bit, cut, carried}
-use Rattle.refusal.specs.Refusals.{first_refusal}
+use Rattle.std.specs.Prelude.{Ok, Err}
+use Rattle.refusal.specs.Refusals.{first_refusal, unless}
+use Rattle.refusal.specs.declared.Refusal.TheVariants.{InvalidOrder}
 use Rattle.bits.proofs.Bitwise.{bit_up}
 use Rattle.bits.proofs.Digits.{bit_is, bits_at}
 use Rattle.bits.proofs.Numbers.{bit_more, value_more, carried_back}
 use Rattle.order.specs.Order.{is_order, placed, byte_of, frame_of}
-use Rattle.order.specs.Placing.{placed_unless, placed_bits}
+use Rattle.order.specs.Placing.{placed_bits}
 use Rattle.order.proofs.Bytes.{bytes_ext}
 use Rattle.order.proofs.Frames.{placed_below}
 
@@ -46,17 +48,17 @@ module _ (ord : List ℕ) (w : ℕ) where
 
 module _ (ord : List ℕ) (g : ℕ → Bool) where
   -- what is owed by the test of the order
-  owes : (b : Bool) → is_order ord ≡ b → placed_unless (first_refusal ((not b, 10) ∷ [])) ord g ≡ placed_bits ord g
+  owes : (b : Bool) → is_order ord ≡ b → unless (first_refusal ((not b, InvalidOrder) ∷ [])) (frame_of ord g) ≡ placed_bits ord g
   unfolding placed_bits
-  owes b e = sym (ap (λ (c : Bool). placed_unless (first_refusal ((not c, 10) ∷ [])) ord g) e)
+  owes b e = sym (ap (λ (c : Bool). unless (first_refusal ((not c, InvalidOrder) ∷ [])) (frame_of ord g)) e)
 
   -- a list that is no order
-  pub none_owes : is_order ord ≡ false → record { refusal = 10; bytes = replicate 7 0 } ≡ placed_bits ord g
+  pub none_owes : is_order ord ≡ false → Err InvalidOrder ≡ placed_bits ord g
   none_owes e = owes false e
 
   -- the frame, from the number of its places
   pub frame_owes : is_order ord ≡ true → (bytes : List ℕ) (x : ℕ) → bytes ≡ cut (byte_of (carried 56 x)) 0 7 → x ≡ value (cut (placed ord g) 0 56)
-      → record { refusal = 0; bytes = bytes } ≡ placed_bits ord g
+      → Ok bytes ≡ placed_bits ord g
   unfolding frame_of
   frame_owes o bytes x e f =
-      ap (λ (l : List ℕ). record { refusal = 0; bytes = l }) (e ∙ bytes_ext (carried 56 x) (placed ord g) (λ t h. carried_back 56 (placed ord g) x t f h)) ∙ owes true o
+      ap Ok (e ∙ bytes_ext (carried 56 x) (placed ord g) (λ t h. carried_back 56 (placed ord g) x t f h)) ∙ owes true o

@@ -1,9 +1,11 @@
 -- Document 01, "Order of the bits", with document 02, T-07: orders, the default one (the house order), places, bytes and the channel.
 -- A frame's logical bits are a sequence, of which 0 to 53 count.
-use Rattle.std.specs.Prelude.{ℕ, zero, suc, ◌*◌, ◌/◌, ◌%◌, ◌<◌, ◌≡◌, Bool, false, not, cond, ◌&&◌, List, [], ◌∷◌, ◌++◌, T, eqb, ltb, length, get_or}
+use Rattle.std.specs.Prelude.{ℕ, zero, suc, ◌*◌, ◌/◌, ◌%◌, ◌<◌, ◌≡◌, Bool, false, not, cond, ◌&&◌, List, [], ◌∷◌, ◌++◌, T, eqb, ltb, length, get_or, Option}
 use Rattle.bits.specs.Bits.{◌⊻◌, add_one, ones, value, bits, cut}
 use Rattle.bits.specs.Lists.{every}
 use Rattle.refusal.specs.Refusals.{Table, first_refusal}
+use Rattle.refusal.specs.declared.Refusal.{Refusal}
+use Rattle.refusal.specs.declared.Refusal.TheVariants.{FrameLength, PaddingBits, InvalidOrder}
 
 -- how often a number stands in a list
 abbrev pub times : ℕ → List ℕ → ℕ
@@ -71,14 +73,14 @@ padding bytes = cut (bit_at bytes) 54 2
 
 -- what refuses a list as the order: it is none (T-07)
 abbrev pub order_table : List ℕ → Table
-order_table ord = (not (is_order ord), 10) ∷ []
+order_table ord = (not (is_order ord), InvalidOrder) ∷ []
 
 -- what refuses a frame in an order: it is not seven bytes; what refuses the order; one of its last two bits is set
 abbrev pub frame_table : List ℕ → List ℕ → Table
-frame_table ord bytes = (not (eqb (length bytes) 7), 2) ∷ order_table ord ++ (not (eqb (ones (padding bytes)) 0), 3) ∷ []
+frame_table ord bytes = (not (eqb (length bytes) 7), FrameLength) ∷ order_table ord ++ (not (eqb (ones (padding bytes)) 0), PaddingBits) ∷ []
 
--- its refusal, 0 is none
-abbrev pub frame_refusal : List ℕ → List ℕ → ℕ
+-- its refusal
+abbrev pub frame_refusal : List ℕ → List ℕ → Option Refusal
 frame_refusal ord bytes = first_refusal (frame_table ord bytes)
 
 -- the frame that a channel hands on: the places that fl names among 0 to 53 are changed, nothing else

@@ -16,24 +16,9 @@ pub use place::place_bits;
 pub use soft_taking::soft_bits;
 pub use taking::logical_bits;
 
-// The frame of 54 logical bits, and 0; or the refusal, and zeros beside it.
-#[derive(Clone, Copy)]
-pub struct Placed {
-    pub refusal: u8,
-    pub bytes: [u8; 7],
-}
-
-// The logical bits of a frame in the low 54 bits of a number, bit 0 the most significant; or the refusal.
-#[derive(Clone, Copy)]
-pub enum BitsAnswer {
-    Bits(u64),
-    Refused(u8),
-}
-
-// The same and the confidence of each logical bit, and 0; or the refusal, and zeros beside it.
+// The logical bits of a frame in the low 54 bits of a number, bit 0 the most significant, and the confidence of each.
 #[derive(Clone, Copy)]
 pub struct SoftBits {
-    pub refusal: u8,
     pub bits: u64,
     pub confidences: [u8; 54],
 }

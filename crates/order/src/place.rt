@@ -4,8 +4,8 @@ ghost use Rattle.bits.specs.Bits.{value, cut, carried};
 ghost use Rattle.order.specs.Order.{is_order, default_order, placed, byte_of};
 ghost use Rattle.order.specs.Placing.{placed_bits};
 
-use crate::Placed;
 use crate::list::{each_once, is_default};
+use refusal::Refusal;
 
 // The 56 places of 54 logical bits in the default order. Bits that stand as far from where they go move together, by a shift
 // and a mask.
@@ -57,31 +57,19 @@ fn seven_bytes(bits: u64) -> [u8; 7]
     ]
 }
 
-// The frame of the logical bits in the low 54 bits of a number. Refused: 10, a list that is no order. The default order is
-// known by one comparison, so that who lends it does not pay for the others.
-pub fn place_bits(bits: u64, order: &[u8]) -> Placed
+// The frame of the logical bits in the low 54 bits of a number, unless the list is no order. The default order is known by one
+// comparison, so that who lends it does not pay for the others.
+pub fn place_bits(bits: u64, order: &[u8]) -> Result<[u8; 7], Refusal>
     ensures { result ≡ placed_bits order.now (carried 54 bits) }
 {
     if order.len() != 54 {
-        return Placed {
-            refusal: 10,
-            bytes: [0; 7],
-        };
+        return Err(Refusal::InvalidOrder);
     }
     if is_default(order) {
-        return Placed {
-            refusal: 0,
-            bytes: seven_bytes(scatter(bits)),
-        };
+        return Ok(seven_bytes(scatter(bits)));
     }
     if each_once(order) {
-        return Placed {
-            refusal: 0,
-            bytes: seven_bytes(place_each(bits, order)),
-        };
+        return Ok(seven_bytes(place_each(bits, order)));
     }
-    Placed {
-        refusal: 10,
-        bytes: [0; 7],
-    }
+    Err(Refusal::InvalidOrder)
 }

@@ -1,12 +1,13 @@
 // The 54 logical bits of a frame in an order, each with the confidence of its place.
-ghost use Rattle.std.specs.Prelude.{◌≡◌, true, ◌+◌, ◌≤◌, length, replicate};
+ghost use Rattle.std.specs.Prelude.{◌≡◌, true, ◌+◌, ◌≤◌, length};
 ghost use Rattle.bits.specs.Bits.{cut};
 ghost use Rattle.order.specs.Order.{is_order, default_order};
 ghost use Rattle.order.specs.SoftTaking.{confidence_of, soft_bits, KnownTo};
 
+use crate::SoftBits;
 use crate::list::is_default;
 use crate::taking::logical_bits;
-use crate::{BitsAnswer, SoftBits};
+use refusal::Refusal;
 
 // Confidences under way: how many logical bits have theirs, and these.
 #[derive(Clone, Copy)]
@@ -70,32 +71,16 @@ fn by_bit(confidences: &[u8], order: &[u8]) -> [u8; 54]
     each_confidence(confidences, order)
 }
 
-// A refusal, and zeros beside it.
-fn refused(n: u8) -> SoftBits
-    ensures { result ≡ record { refusal = n; bits = 0; confidences = replicate 54 0 } }
-{
-    SoftBits {
-        refusal: n,
-        bits: 0,
-        confidences: [0; 54],
-    }
-}
-
-// The logical bits of a frame and their confidences. Refused: 2, 10 and 3 as without confidences; 9, other than 54 of them.
-pub fn soft_bits(frame: &[u8], order: &[u8], confidences: &[u8]) -> SoftBits
+// The logical bits of a frame and their confidences. Refused: what is without confidences; then, other than 54 of them.
+pub fn soft_bits(frame: &[u8], order: &[u8], confidences: &[u8]) -> Result<SoftBits, Refusal>
     ensures { result ≡ soft_bits order.now frame.now confidences.now }
 {
-    match logical_bits(frame, order) {
-        BitsAnswer::Refused(n) => refused(n),
-        BitsAnswer::Bits(bits) => {
-            if confidences.len() != 54 {
-                return refused(9);
-            }
-            SoftBits {
-                refusal: 0,
-                bits,
-                confidences: by_bit(confidences, order),
-            }
-        }
+    let bits = logical_bits(frame, order)?;
+    if confidences.len() != 54 {
+        return Err(Refusal::ConfidenceCount);
     }
+    Ok(SoftBits {
+        bits,
+        confidences: by_bit(confidences, order),
+    })
 }

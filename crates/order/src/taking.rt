@@ -4,8 +4,8 @@ ghost use Rattle.bits.specs.Bits.{value, cut, carried};
 ghost use Rattle.order.specs.Order.{is_order, default_order, place_of, bit_at};
 ghost use Rattle.order.specs.Taking.{OneNamed, bits_answer};
 
-use crate::BitsAnswer;
 use crate::list::{each_once, is_default};
+use refusal::Refusal;
 
 // Some of seven bytes as one number, most significant first.
 fn bytes_from(frame: &[u8], first: usize, end: usize) -> u64
@@ -72,38 +72,39 @@ fn take_each(placed: u64, order: &[u8]) -> u64
     bits
 }
 
-// The logical bits of seven bytes in the default order. Refused: 3, one of the last two bits set.
-fn default_bits(frame: &[u8]) -> BitsAnswer
+// The logical bits of seven bytes in the default order, unless one of the last two bits is set.
+fn default_bits(frame: &[u8]) -> Result<u64, Refusal>
     requires { length frame.now ≡ 7 }
     ensures { result ≡ bits_answer default_order frame.now }
 {
     if frame[6] % 4 != 0 {
-        return BitsAnswer::Refused(3);
+        return Err(Refusal::PaddingBits);
     }
-    BitsAnswer::Bits(gather(placed_bits(frame)))
+    Ok(gather(placed_bits(frame)))
 }
 
 // The same in any order.
-fn ordered_bits(frame: &[u8], order: &[u8]) -> BitsAnswer
+fn ordered_bits(frame: &[u8], order: &[u8]) -> Result<u64, Refusal>
     requires { (length frame.now ≡ 7) × (is_order order.now ≡ true) }
     ensures { result ≡ bits_answer order.now frame.now }
 {
     if frame[6] % 4 != 0 {
-        return BitsAnswer::Refused(3);
+        return Err(Refusal::PaddingBits);
     }
-    BitsAnswer::Bits(take_each(placed_bits(frame), order))
+    Ok(take_each(placed_bits(frame), order))
 }
 
-// The logical bits of a frame. Refused: 2, not seven bytes; 10, a list that is no order; 3, one of the last two bits set.
+// The logical bits of a frame in the low 54 bits of a number, bit 0 the most significant. Refused: what is not seven bytes; a
+// list that is no order; a frame with one of its last two bits set.
 // The default order is known by one comparison, so that who lends it does not pay for the others.
-pub fn logical_bits(frame: &[u8], order: &[u8]) -> BitsAnswer
+pub fn logical_bits(frame: &[u8], order: &[u8]) -> Result<u64, Refusal>
     ensures { result ≡ bits_answer order.now frame.now }
 {
     if frame.len() != 7 {
-        return BitsAnswer::Refused(2);
+        return Err(Refusal::FrameLength);
     }
     if order.len() != 54 {
-        return BitsAnswer::Refused(10);
+        return Err(Refusal::InvalidOrder);
     }
     if is_default(order) {
         return default_bits(frame);
@@ -111,7 +112,7 @@ pub fn logical_bits(frame: &[u8], order: &[u8]) -> BitsAnswer
     if each_once(order) {
         return ordered_bits(frame, order);
     }
-    BitsAnswer::Refused(10)
+    Err(Refusal::InvalidOrder)
 }
 
 // The bit of place 0: 2 to the 55th.
