@@ -1,27 +1,17 @@
 -- Which words are erased: those whose syndrome erases and no others. A word with at most one flip is none of them, whatever its length.
 -- Assumes nothing.
 use mathlib.Core.Path.{◌≡◌, refl, sym, ap, ◌∙◌}
-use mathlib.Core.Bool.{Bool, true, false, false≢true, cond, and-false}
+use mathlib.Core.Bool.{Bool, true, false, cond, and-false}
 use mathlib.Core.List.{List, [], ◌∷◌}
 use Prim.Native.Nat.{ℕ, ◌≤◌}
 use native.Mathlib.Omega.{arith}
 use lib.Dec.{eqb}
+use Rattle.std.specs.Prelude.{is_none}
 use lib.ListN.{length}
 use borrow.Author.Tests.{eq-eqb, eqb-true}
 use Rattle.bits.specs.Bits.{◌⊕◌, ones}
 use Rattle.hamming.specs.Word.{data_bits, encode, syndrome, erases, bit_from, stand, flip, erase, fix_of, mend, decode}
-use Rattle.hamming.specs.declared.Decoded.{Decoded}
-use Rattle.hamming.specs.declared.Decoded.TheVariants.{Read, Erased}
 use Rattle.hamming.proofs.Repairs.{decode_back}
-
--- whether the outcome of a word is an erasure
-abbrev pub is_erased : Decoded → Bool
-is_erased (Read d k) = false
-is_erased Erased = true
-
-pub erased_eq : (r : Decoded) → is_erased r ≡ true → r ≡ Erased
-erased_eq (Read d k) e = absurd (false≢true e)
-erased_eq Erased e = refl
 
 -- zero erases no word
 zero_keeps : (n : ℕ) (z : List Bool) → ones z ≡ 0 → erases n z ≡ false
@@ -30,13 +20,13 @@ zero_keeps n (true ∷ z) e = absurd (omega arith)
 zero_keeps n (false ∷ z) e = simp (eq-eqb (ones z) 0 e, and-false (eqb n 8), and-false (eqb n 6))
 
 -- the outcome by the two tests of a syndrome, of which not both hold
-by_tests : (n : ℕ) (w : List Bool) (k : ℕ) (a b : Bool) → (a ≡ true → b ≡ false) → is_erased (mend n w (cond a stand (cond b erase (flip k)))) ≡ b
+by_tests : (n : ℕ) (w : List Bool) (k : ℕ) (a b : Bool) → (a ≡ true → b ≡ false) → is_none (mend n w (cond a stand (cond b erase (flip k)))) ≡ b
 by_tests n w k true b h = sym (h refl)
 by_tests n w k false true h = refl
 by_tests n w k false false h = refl
 
 -- a received word is erased exactly where its syndrome erases
-pub decode_erased : (n : ℕ) (w : List Bool) → is_erased (decode n w) ≡ erases n (syndrome n w)
+pub decode_erased : (n : ℕ) (w : List Bool) → is_none (decode n w) ≡ erases n (syndrome n w)
 unfolding decode fix_of
 decode_erased n w =
     let z = syndrome n w in
@@ -44,8 +34,8 @@ decode_erased n w =
 
 module _ (n : ℕ) (l : 6 ≤ n) (m : n ≤ 8) (d e : List Bool) (hd : length d ≡ data_bits n) (he : length e ≡ n) (h : ones e ≤ 1) where
   -- a word with at most one flip is never erased
-  pub one_flip_read : is_erased (decode n (encode n d ⊕ e)) ≡ false
-  one_flip_read = ap is_erased (decode_back n l m d e hd he h)
+  pub one_flip_read : is_none (decode n (encode n d ⊕ e)) ≡ false
+  one_flip_read = ap is_none (decode_back n l m d e hd he h)
 
   -- so it shows no syndrome that erases, word B not the spare's
   pub one_flip_syndrome : erases n (syndrome n (encode n d ⊕ e)) ≡ false

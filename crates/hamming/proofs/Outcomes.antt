@@ -4,12 +4,12 @@ use mathlib.Core.Path.{◌≡◌, sym, ap, ◌∙◌}
 use mathlib.Core.Bool.{Bool}
 use mathlib.Core.List.{List}
 use Prim.Native.Nat.{ℕ, ◌/◌, ◌%◌, ◌^◌, ◌≤◌, ◌<◌}
+use Rattle.std.specs.Prelude.{None}
 use lib.Bits.{bit_xor, xor_lt}
 use lib.ListN.{get_or}
 use Rattle.bits.specs.Bits.{value, bits}
-use Rattle.hamming.specs.Word.{check_bits, data_bits, parity_of, syndrome, flip_at, flip, fix_of, mend, decode}
+use Rattle.hamming.specs.Word.{check_bits, data_bits, parity_of, syndrome, flip_at, flip, fix_of, read_as, mend, decode}
 use Rattle.hamming.specs.Table.{stand_mark, erase_mark, entry_of, fix_row}
-use Rattle.hamming.specs.declared.Decoded.TheVariants.{Read, Erased}
 use Rattle.hamming.proofs.Words.{expected, expected_lt, received_lt, syndrome_length, syndrome_is, data_value, flipped_data_value}
 use Rattle.hamming.proofs.Entries.{row_is, entry_erase, entry_stand, entry_flip}
 
@@ -27,14 +27,14 @@ module _ (n : ℕ) (l : 6 ≤ n) (m : n ≤ 8) (w : ℕ) where
 
   module _ (h : w < 2 ^ n) (fix : ℕ) (e : fix ≡ entry_of (fix_of n (syndrome n (bits n w)))) where
     -- the mark of an erasure
-    pub erase_is : fix ≡ erase_mark → Erased ≡ decode n (bits n w)
+    pub erase_is : fix ≡ erase_mark → None ≡ decode n (bits n w)
     unfolding decode
     erase_is f = sym (ap (mend n (bits n w)) (entry_erase n l m _ (syndrome_length n l m w) (sym e ∙ f)))
 
     -- the mark of a word that stands
-    pub stand_is : fix ≡ stand_mark → Read (w / 2 ^ check_bits n) 0 ≡ decode n (bits n w)
+    pub stand_is : fix ≡ stand_mark → read_as (w / 2 ^ check_bits n) 0 ≡ decode n (bits n w)
     unfolding decode
-    stand_is f = ap (λ (x : ℕ). Read x 0) (sym (data_value n l m w h)) ∙ sym (ap (mend n (bits n w)) (entry_stand n l m _ (syndrome_length n l m w) (sym e ∙ f)))
+    stand_is f = ap (λ (x : ℕ). read_as x 0) (sym (data_value n l m w h)) ∙ sym (ap (mend n (bits n w)) (entry_stand n l m _ (syndrome_length n l m w) (sym e ∙ f)))
 
     module _ (a : fix ≡ erase_mark → ⊥) (b : fix ≡ stand_mark → ⊥) where
       fix_flips : (fix_of n (syndrome n (bits n w)) ≡ flip (entry_of (fix_of n (syndrome n (bits n w))))) × (entry_of (fix_of n (syndrome n (bits n w))) < n)
@@ -45,8 +45,8 @@ module _ (n : ℕ) (l : 6 ≤ n) (m : n ≤ 8) (w : ℕ) where
       bit_lt = rw e fix_flips.1
 
       -- which is flipped back
-      pub flip_is : (x : ℕ) → x ≡ value (flip_at fix (bits n w)) → Read (x / 2 ^ check_bits n) 1 ≡ decode n (bits n w)
+      pub flip_is : (x : ℕ) → x ≡ value (flip_at fix (bits n w)) → read_as (x / 2 ^ check_bits n) 1 ≡ decode n (bits n w)
       unfolding decode
       flip_is x f =
-          ap (λ (y : ℕ). Read y 1) (ap (λ (y : ℕ). y / 2 ^ check_bits n) f ∙ sym (flipped_data_value n l m fix w))
+          ap (λ (y : ℕ). read_as y 1) (ap (λ (y : ℕ). y / 2 ^ check_bits n) f ∙ sym (flipped_data_value n l m fix w))
           ∙ sym (ap (mend n (bits n w)) (fix_flips.0 ∙ ap flip (sym e)))

@@ -1,10 +1,9 @@
 -- Document 01, "The four words" (MIL-STD-3005, 5.4). A word is given by its length n: eight bits (A), six (B), seven (C and D).
-use Rattle.std.specs.Prelude.{ℕ, zero, suc, ◌-◌, ◌%◌, ◌^◌, ◌≤◌, ◌<◌, Bool, true, false, not, cond, ◌&&◌, ◌||◌, List, [], ◌∷◌, ◌++◌, eqb, take, drop, replicate}
+use Rattle.std.specs.Prelude.{ℕ, zero, suc, ◌-◌, ◌%◌, ◌^◌, ◌≤◌, ◌<◌, Bool, true, false, not, cond, ◌&&◌, ◌||◌, List, [], ◌∷◌, ◌++◌, Option, None, Some, IfSome, eqb, take, drop, replicate}
 use Rattle.bits.specs.Bits.{◌⊻◌, ◌⊕◌, ones, value, same}
 use Rattle.hamming.specs.declared.WordLength.{WordLength}
 use Rattle.hamming.specs.declared.WordLength.TheVariants.{Six, Seven, Eight}
-use Rattle.hamming.specs.declared.Decoded.{Decoded}
-use Rattle.hamming.specs.declared.Decoded.TheVariants.{Read, Erased}
+use Rattle.hamming.specs.declared.Word.{Word}
 
 -- how many bits a word of each length has
 abbrev pub length_of : WordLength → ℕ
@@ -81,18 +80,21 @@ pub data Fix : Type 0 where
 unfoldable pub fix_of : ℕ → List Bool → Fix
 fix_of n z = cond (eqb (ones z) 0) stand (cond (erases n z) erase (flip (bit_from n z n 0)))
 
--- the outcome of the word when that is done: its data as a number, and 1 where a bit was repaired
-abbrev pub mend : ℕ → List Bool → Fix → Decoded
-mend n w stand = Read (value (data_of n w)) 0
-mend n w (flip k) = Read (value (data_of n (flip_at k w))) 1
-mend n w erase = Erased
+-- a word that is read: its data as a number, and how many of its bits were repaired
+abbrev pub read_as : ℕ → ℕ → Option Word
+read_as d k = Some (record { «data» = d; repaired = k })
+
+-- the outcome of the word when that is done: its data, and 1 where a bit was repaired; none where it erases the frame
+abbrev pub mend : ℕ → List Bool → Fix → Option Word
+mend n w stand = read_as (value (data_of n w)) 0
+mend n w (flip k) = read_as (value (data_of n (flip_at k w))) 1
+mend n w erase = None
 
 -- the outcome of a received word of n bits
-unfoldable pub decode : ℕ → List Bool → Decoded
+unfoldable pub decode : ℕ → List Bool → Option Word
 decode n w = mend n w (fix_of n (syndrome n w))
 
 -- an outcome that fits a word of n bits, however it was chosen: data below two to the number of data bits, and no more bits repaired than there are.
 -- A helper of the code above
-abbrev pub Bounded : ℕ → Decoded → Type 0
-Bounded n (Read d k) = (d < 2 ^ data_bits n) × (k ≤ n)
-Bounded n Erased = Unit
+abbrev pub Bounded : ℕ → Option Word → Type 0
+Bounded n r = IfSome r (λ w. (w.data < 2 ^ data_bits n) × (w.repaired ≤ n))

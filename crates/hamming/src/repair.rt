@@ -5,7 +5,7 @@ ghost use Rattle.hamming.specs.Word.{length_of, check_bits, syndrome, flip_at, d
 ghost use Rattle.hamming.specs.Table.{fix_row};
 
 use crate::parity::parity_of;
-use crate::{Decoded, WordLength};
+use crate::{Word, WordLength};
 
 // The weight of the lowest data bit: the parity bits stand below it.
 fn data_weight(n: usize) -> u8
@@ -34,23 +34,29 @@ fn flipped(n: usize, word: u8, k: usize) -> u8
 }
 
 // The outcome of a word of n bits: the table's row for such words is asked at its syndrome.
-fn decode_word(length: WordLength, n: usize, fixes: [u8; 16], word: u8) -> Decoded
+fn decode_word(length: WordLength, n: usize, fixes: [u8; 16], word: u8) -> Option<Word>
     requires { (n ≡ length_of length) × (word < 2 ^ n) × (fixes ≡ fix_row n) }
     ensures { result ≡ decode n (bits n word) }
 {
     let fix = fixes[syndrome_of(length, n, word) as usize];
     let weight = data_weight(n);
     if fix == ERASE {
-        return Decoded::Erased;
+        return None;
     }
     if fix == STAND {
-        return Decoded::Read(word / weight, 0);
+        return Some(Word {
+            data: word / weight,
+            repaired: 0,
+        });
     }
-    Decoded::Read(flipped(n, word, fix as usize) / weight, 1)
+    Some(Word {
+        data: flipped(n, word, fix as usize) / weight,
+        repaired: 1,
+    })
 }
 
 // The outcome of the word in the low bits of a number.
-pub fn decode(length: WordLength, word: u8) -> Decoded
+pub fn decode(length: WordLength, word: u8) -> Option<Word>
     ensures { result ≡ decode (length_of length) (bits (length_of length) word) }
 {
     match length {

@@ -7,11 +7,12 @@ use Rattle.bits.proofs.Digits.{bits_mod}
 use Rattle.hamming.specs.Word.{length_of, fix_of, decode}
 use Rattle.hamming.specs.Table.{fix_row}
 use Rattle.hamming.specs.declared.WordLength.{WordLength}
-use Rattle.hamming.specs.declared.Decoded.{Decoded}
+use Rattle.hamming.specs.declared.Word.{Word}
+use Rattle.std.specs.Prelude.{Option}
 use Rattle.hamming.proofs.repair.decode.Goals as goal
 
 -- what is claimed of a result
-abbrev Claim : Decoded → ℕ → WordLength → Type 0
+abbrev Claim : Option Word → ℕ → WordLength → Type 0
 Claim r w l = r ≡ decode (length_of l) (bits (length_of l) w)
 
 pub decode_word-requires : goal.decode_word-requires

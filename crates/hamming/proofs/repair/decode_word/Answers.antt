@@ -4,9 +4,8 @@ use Prim.Native.Nat.{ℕ, ◌/◌, ◌≤◌, ◌<◌}
 use native.Mathlib.Omega.{arith}
 use lib.ListN.{get_or}
 use Rattle.bits.specs.Bits.{bits}
-use Rattle.hamming.specs.Word.{syndrome, fix_of}
+use Rattle.hamming.specs.Word.{syndrome, fix_of, read_as}
 use Rattle.hamming.specs.Table.{entry_of}
-use Rattle.hamming.specs.declared.Decoded.TheVariants.{Read}
 use Rattle.hamming.proofs.Lengths.{length_least, length_most}
 use Rattle.hamming.proofs.Outcomes as outcome
 use Rattle.hamming.proofs.repair.decode_word.Goals as goal
@@ -54,7 +53,7 @@ returns-then-fix-eq-STAND c =
     let w = c in
     let z = w in
     let s = z in
-    ap (λ (x : ℕ). Read (s.args.word / x) 0) w.data_weight-weight.ensures.equal
+    ap (λ (x : ℕ). read_as (s.args.word / x) 0) w.data_weight-weight.ensures.equal
     ∙ outcome.stand_is s.args.n (least (goal.at.returns-then-fix-eq-STAND s).Start) (most (goal.at.returns-then-fix-eq-STAND s).Start) s.args.word s.requires.1 (entry (goal.at.returns-then-fix-eq-STAND z).After-syndrome_of) (entry_is (goal.at.returns-then-fix-eq-STAND z).After-syndrome_of) c.if-fix-eq-STAND.true
 
 pub overflow_cast-fix-2 : goal.overflow_cast-fix-2
@@ -71,6 +70,6 @@ returns c =
     let w = e in
     let z = w in
     let s = z in
-    ap (λ (x : ℕ). Read (c.flipped.result / x) 1) w.data_weight-weight.ensures.equal
+    ap (λ (x : ℕ). read_as (c.flipped.result / x) 1) w.data_weight-weight.ensures.equal
     ∙ outcome.flip_is s.args.n (least (goal.at.returns s).Start) (most (goal.at.returns s).Start) s.args.word s.requires.1 (entry (goal.at.returns z).After-syndrome_of) (entry_is (goal.at.returns z).After-syndrome_of) e.if-fix-eq-ERASE.false c.if-fix-eq-STAND.false
     c.flipped.result c.flipped.ensures
