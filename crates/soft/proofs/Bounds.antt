@@ -8,10 +8,10 @@ use native.Mathlib.Omega.{arith}
 use lib.Dec.{eqb, leb}
 use lib.ListN.{length}
 use lib.Pow.{pow_pos}
+use Rattle.std.specs.Prelude.{None}
 use Rattle.bits.specs.Bits.{ones}
 use Rattle.bits.proofs.Count.{ones_le}
-use Rattle.hamming.specs.Word.{data_bits, Bounded}
-use Rattle.hamming.specs.declared.Decoded.TheVariants.{Read, Erased}
+use Rattle.hamming.specs.Word.{data_bits, Bounded, read_as}
 use Rattle.soft.specs.Choice.{code_words, differing, key, chosen, cheapest, choose}
 use Rattle.soft.proofs.Least.{least_lt}
 use Rattle.soft.proofs.Splitting.{differing_length}
@@ -26,6 +26,6 @@ pub choose_bounded : (n : ℕ) (q : List ℕ) (w : List Bool) → length w ≡ n
 unfolding choose
 choose_bounded n q w h = go (eqb n 8 && leb 2 (cheapest n q w))
   where
-    go : (t : Bool) → Bounded n (cond t Erased (Read (chosen n q w) (ones (differing n w (chosen n q w)))))
+    go : (t : Bool) → Bounded n (cond t None (read_as (chosen n q w) (ones (differing n w (chosen n q w)))))
     go true = tt
     go false = (chosen_lt n q w, omega (arith, ones_le (differing n w (chosen n q w)), differing_length n w (chosen n q w) h))

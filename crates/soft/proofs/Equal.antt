@@ -9,11 +9,11 @@ use native.Mathlib.Omega.{arith}
 use lib.Dec.{T, eqb, leb, ltb}
 use lib.ListN.{length, replicate}
 use borrow.Author.Tests.{ltb-true, ltb-false, lt-ltb, le-ltb, eqb-true, eqb-false, eq-eqb, ne_eqb}
+use Rattle.std.specs.Prelude.{None}
 use Rattle.bits.specs.Bits.{ones, cut, same}
 use Rattle.bits.proofs.Tests.{T_true, implies, implies_at}
 use Rattle.bits.proofs.Patterns.{all_patterns, all_patterns_at, same_eq}
-use Rattle.hamming.specs.Word.{syndrome, spare_column, fix_of, decode}
-use Rattle.hamming.specs.declared.Decoded.TheVariants.{Read, Erased}
+use Rattle.hamming.specs.Word.{syndrome, spare_column, fix_of, decode, read_as}
 use Rattle.hamming.proofs.Lengths.{lengths_at}
 use Rattle.hamming.proofs.Repairs.{same_read, same_read_eq}
 use Rattle.soft.specs.Least.{precedes, least_by}
@@ -62,7 +62,7 @@ module _ (k : ℕ) (h : 0 < k) where
     -- the outcome
     choose_same : choose n q w ≡ choose n r w
     unfolding choose
-    choose_same = λ i. cond (eqb n 8 && leb 2 (cheapest_same i)) Erased (Read (chosen_same i) (ones (differing n w (chosen_same i))))
+    choose_same = λ i. cond (eqb n 8 && leb 2 (cheapest_same i)) None (read_as (chosen_same i) (ones (differing n w (chosen_same i))))
 
 -- equal confidences cost as many times the number of places that differ
 cost_equal : (n k : ℕ) (w : List Bool) → length w ≡ n → (u : ℕ) → cost n (replicate n k) w u ≡ k * ones (differing n w u)

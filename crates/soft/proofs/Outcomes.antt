@@ -12,11 +12,11 @@ use lib.ListN.{length, get_or, drop, replicate, get_or-replicate, get_or-append}
 use lib.Seq.{get_or-append-add, get_or-drop}
 use lib.Pow.{pow_pos}
 use borrow.Author.Tests.{le-ltb, ne_eqb}
+use Rattle.std.specs.Prelude.{None}
 use Rattle.bits.specs.Bits.{ones, cut}
 use Rattle.bits.proofs.Count.{ones_le}
 use Rattle.bits.proofs.Cut.{cut_length, cut_at, cut_ext}
-use Rattle.hamming.specs.Word.{data_bits}
-use Rattle.hamming.specs.declared.Decoded.TheVariants.{Read, Erased}
+use Rattle.hamming.specs.Word.{data_bits, read_as}
 use Rattle.soft.specs.Least.{least_by}
 use Rattle.soft.specs.Choice.{code_words, differing, cost, key, chosen, choose}
 use Rattle.soft.specs.Prices.{price_of, prices_of, PricesFit, cost_in, least_in, as_cheap, key_number}
@@ -100,10 +100,10 @@ module _ (n : ℕ) (l : 6 ≤ n) (m : n ≤ 8) (q : List ℕ) (w : List Bool) (h
     cost_is : k / 16 ≡ cost n q w (chosen n q w)
     cost_is = omega (arith, number_is, chosen_lt n q w, code_words_le n l m)
 
-    pub outcome_is : (t : Bool) → t ≡ (eqb n 8 && leb 2 (as_cheap prices (k / 16))) → cond t Erased (Read (k % 16) (get_or prices (k % 16) 0 % 16)) ≡ choose n q w
+    pub outcome_is : (t : Bool) → t ≡ (eqb n 8 && leb 2 (as_cheap prices (k / 16))) → cond t None (read_as (k % 16) (get_or prices (k % 16) 0 % 16)) ≡ choose n q w
     unfolding choose
     outcome_is t h =
         let places : get_or prices (k % 16) 0 % 16 ≡ ones (differing n w (chosen n q w)) =
         ap (λ (u : ℕ). get_or prices u 0 % 16) data_is ∙ differing_at (chosen n q w) (chosen_lt n q w) in
         let tied = h ∙ ap (λ (x : ℕ). eqb n 8 && leb 2 (as_cheap prices x)) cost_is ∙ tie_is (cost n q w (chosen n q w)) in
-        λ i. cond (tied i) Erased (Read (data_is i) (places i))
+        λ i. cond (tied i) None (read_as (data_is i) (places i))

@@ -12,8 +12,7 @@ use Rattle.bits.specs.Lists.{Every}
 use Rattle.bits.proofs.Count.{ones_append}
 use Rattle.bits.proofs.Value.{value_lt_at}
 use Rattle.bits.proofs.Digits.{bits_length, value_bits, bits_value}
-use Rattle.hamming.specs.Word.{data_bits, parity_of, encode}
-use Rattle.hamming.specs.declared.Decoded.TheVariants.{Read}
+use Rattle.hamming.specs.Word.{data_bits, parity_of, encode, read_as}
 use Rattle.hamming.proofs.Words.{split_length, parity_length}
 use Rattle.soft.specs.Choice.{code_words, differing, cost, chosen, choose}
 use Rattle.soft.specs.Claims.{Tied}
@@ -33,8 +32,8 @@ module _ (n : ℕ) (q : List ℕ) (w : List Bool) (d : ℕ) (h : d < code_words 
       go (no f) = absurd (omega (arith, less (chosen n q w) (chosen_cheapest n q w).taken f, (chosen_cheapest n q w).least d h))
 
   -- and nothing is erased
-  only_read : choose n q w ≡ Read d (ones (differing n w d))
-  only_read = (outcomes_are n q w).single (λ e. alone) ∙ ap (λ (u : ℕ). Read u (ones (differing n w u))) only_chosen
+  only_read : choose n q w ≡ read_as d (ones (differing n w d))
+  only_read = (outcomes_are n q w).single (λ e. alone) ∙ ap (λ (u : ℕ). read_as u (ones (differing n w u))) only_chosen
     where
       alone : Tied n q w → ⊥
       alone t = omega (arith, less t.other t.inside (λ f. t.differs (f ∙ sym only_chosen)), t.equal, ap (cost n q w) only_chosen)
@@ -82,8 +81,8 @@ module _ (n : ℕ) (l : 6 ≤ n) (m : n ≤ 8) (d : List Bool) (hd : length d �
       go (no e) = omega arith
 
   -- so what was sent is read, and nothing is repaired
-  pub choose_sent : (q : List ℕ) → length q ≡ n → Every (λ x. 0 < x) q → choose n q (encode n d) ≡ Read (value d) 0
-  choose_sent q hq above = only_read n q (encode n d) (value d) (value_lt_at (data_bits n) d hd) dearer ∙ ap (Read (value d)) own_none
+  pub choose_sent : (q : List ℕ) → length q ≡ n → Every (λ x. 0 < x) q → choose n q (encode n d) ≡ read_as (value d) 0
+  choose_sent q hq above = only_read n q (encode n d) (value d) (value_lt_at (data_bits n) d hd) dearer ∙ ap (read_as (value d)) own_none
     where
       dearer : (u : ℕ) → u < code_words n → (u ≡ value d → ⊥) → cost n q (encode n d) (value d) < cost n q (encode n d) u
       dearer u h f =

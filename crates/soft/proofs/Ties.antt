@@ -9,11 +9,12 @@ use native.Mathlib.Omega.{arith}
 use native.Mathlib.Decide.{ℕ_discrete}
 use lib.Dec.{eqb, leb, ltb}
 use borrow.Author.Tests.{ltb-true, ltb-false, le-ltb, eqb-true, eq-eqb, leb-true, le-leb}
+use Rattle.std.specs.Prelude.{Option, None}
 use Rattle.bits.specs.Bits.{add_one, ones, cut}
 use Rattle.bits.proofs.Count.{ones_append, one_set}
 use Rattle.bits.proofs.Cut.{cut_append}
-use Rattle.hamming.specs.declared.Decoded.{Decoded}
-use Rattle.hamming.specs.declared.Decoded.TheVariants.{Read, Erased}
+use Rattle.hamming.specs.Word.{read_as}
+use Rattle.hamming.specs.declared.Word.{Word}
 use Rattle.soft.specs.Least.{precedes}
 use Rattle.soft.specs.Choice.{code_words, differing, cost, key, chosen, cheapest, choose}
 use Rattle.soft.specs.Claims.{Cheapest, Tied, Outcomes}
@@ -84,8 +85,8 @@ module _ (n : ℕ) (q : List ℕ) (w : List Bool) where
       go u h e (no d) = absurd (no_other (record { other = u; inside = h; differs = d; equal = e }))
 
   -- the outcome by its two tests: whether the word is A, and whether there are two cheapest or more
-  abbrev erased_or_read : Bool → Bool → Decoded
-  erased_or_read a b = cond (a && b) Erased (Read (chosen n q w) (ones (differing n w (chosen n q w))))
+  abbrev erased_or_read : Bool → Bool → Option Word
+  erased_or_read a b = cond (a && b) None (read_as (chosen n q w) (ones (differing n w (chosen n q w))))
 
   -- two or more cheapest erase word A, and any other word is read
   pub outcomes_are : Outcomes n q w

@@ -1,10 +1,9 @@
 -- Document 02, T-05: soft decisions. The data of a received word are chosen by the confidences of its bits, from 0 to 255 each.
 -- A word is given by its length n as in `hamming`: eight bits (A), six (B), seven (C and D). q has the confidences of its n bits, w what came.
-use Rattle.std.specs.Prelude.{ℕ, ◌+◌, ◌^◌, Bool, true, false, cond, ◌&&◌, List, [], ◌∷◌, eqb, leb}
+use Rattle.std.specs.Prelude.{ℕ, ◌+◌, ◌^◌, Bool, true, false, cond, ◌&&◌, List, [], ◌∷◌, eqb, leb, Option, None}
 use Rattle.bits.specs.Bits.{◌⊕◌, ones, bits, cut}
-use Rattle.hamming.specs.Word.{data_bits, encode}
-use Rattle.hamming.specs.declared.Decoded.{Decoded}
-use Rattle.hamming.specs.declared.Decoded.TheVariants.{Read, Erased}
+use Rattle.hamming.specs.Word.{data_bits, encode, read_as}
+use Rattle.hamming.specs.declared.Word.{Word}
 use Rattle.soft.specs.Least.{least_by}
 
 -- how many code words a word of n bits has: one for all data that are sent, sixteen in A, C and D, and the eight of B with spare 0
@@ -45,5 +44,5 @@ module _ (n : ℕ) where
     cheapest = ones (cut (λ u. eqb (cost u) (cost chosen)) 0 (code_words n))
 
     -- the outcome: two or more cheapest erase word A; else the data, and how many sent places differ from their code word
-    unfoldable pub choose : Decoded
-    choose = cond (eqb n 8 && leb 2 cheapest) Erased (Read chosen (ones (differing w chosen)))
+    unfoldable pub choose : Option Word
+    choose = cond (eqb n 8 && leb 2 cheapest) None (read_as chosen (ones (differing w chosen)))

@@ -6,7 +6,7 @@ ghost use Rattle.soft.specs.Choice.{choose};
 ghost use Rattle.soft.specs.Prices.{key_number, least_in, as_cheap};
 
 use crate::prices::prices;
-use hamming::{Decoded, WordLength};
+use hamming::{Word, WordLength};
 
 // The key of a code word in one number: 16 times its cost, and its data.
 fn key_of(price: u16, u: u16) -> u16
@@ -73,14 +73,17 @@ fn places_in(price: u16) -> u8
 
 // The outcome of the word in the low bits of a number, by the confidences of its bits, the first bit's first; those past
 // the word's length play no part.
-pub fn choose(length: WordLength, word: u8, confidences: [u8; 8]) -> Decoded
+pub fn choose(length: WordLength, word: u8, confidences: [u8; 8]) -> Option<Word>
     ensures { result ≡ choose (length_of length) (take (length_of length) confidences) (bits (length_of length) word) }
 {
     let prices = prices(length, word, confidences);
     let key = least_key(prices);
     let data = key % 16;
     if erases(length, prices, key / 16) {
-        return Decoded::Erased;
+        return None;
     }
-    Decoded::Read(data as u8, places_in(prices[data as usize]))
+    Some(Word {
+        data: data as u8,
+        repaired: places_in(prices[data as usize]),
+    })
 }
