@@ -4,7 +4,5 @@ pub mod Answers
 pub mod Additions
 pub mod Decimals
 pub mod Pairs
-pub mod Widths
-pub mod Rooms
 pub mod Sizes
 pub mod Parts

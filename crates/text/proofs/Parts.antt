@@ -5,7 +5,8 @@ use native.Mathlib.Omega.{arith}
 use lib.ListN.{length, take, replicate, length-append, length-take, length-replicate}
 use Rattle.text.specs.Text.{ascii, decimal}
 use Rattle.text.specs.Placing.{Put, PutIfRoom}
-use Rattle.text.specs.declared.LineAnswer.{LineAnswer}
+use Rattle.std.specs.Prelude.{Result}
+use Rattle.refusal.specs.declared.Refusal.{Refusal}
 use Rattle.text.proofs.Answers.{Owes}
 use Rattle.text.proofs.Decimals.{decimal_length}
 use Rattle.text.proofs.Puts.{put_if_room_append, front_is, front_then}
@@ -38,7 +39,7 @@ module _ (a line text : List ℕ) (end most : ℕ) (w : Part a 0 text most line 
   pub line_end_le : end ≤ length a
   line_end_le = omega (arith, w.1, (w.0 (omega (arith, w.1))).0)
 
-  pub line_owes : (out after : List ℕ) (at : ℕ) (answer : LineAnswer) → Owes (take end line) at out after answer → Owes text at out after answer
+  pub line_owes : (out after : List ℕ) (at : ℕ) (answer : Result ℕ Refusal) → Owes (take end line) at out after answer → Owes text at out after answer
   line_owes out after at answer o = rw (front_is a line end text (w.0 (omega (arith, w.1)))) at o
 
 -- the same in a buffer of line ends, with the one that stands after it
@@ -49,7 +50,7 @@ module _ (size : ℕ) (line text : List ℕ) (end most : ℕ) (w : Part (replica
   pub ended_lt : end < size
   ended_lt = omega (arith, w.1, put.0)
 
-  pub ended_owes : (out after : List ℕ) (at : ℕ) (answer : LineAnswer) → Owes (take (end + 1) line) at out after answer
+  pub ended_owes : (out after : List ℕ) (at : ℕ) (answer : Result ℕ Refusal) → Owes (take (end + 1) line) at out after answer
       → Owes (text ++ ascii "\n") at out after answer
   ended_owes out after at answer o = rw (front_then size 10 line end text (omega (arith, w.1)) put) at o
 

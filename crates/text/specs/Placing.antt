@@ -1,46 +1,42 @@
 -- A text put into a lent buffer from `at` on. A buffer that ends before the text does is refused with 1, document 01's number for an output
 -- that is too short; everything past the text, and before it, stays as it was.
-use Rattle.std.specs.Prelude.{ℕ, zero, suc, ◌+◌, ◌≤◌, ◌≡◌, Bool, cond, List, [], ◌∷◌, ◌++◌, ltb, length, take, drop}
-use Rattle.refusal.specs.Refusals.{first_refusal}
-use Rattle.text.specs.declared.LineAnswer.{LineAnswer}
-use Rattle.text.specs.declared.LineAnswer.TheVariants.{Written, Refused}
+use Rattle.std.specs.Prelude.{ℕ, ◌+◌, ◌≤◌, ◌≡◌, Bool, List, [], ◌∷◌, ◌++◌, ltb, min, length, take, drop, Option, None, Some, Result, Ok, Err}
+use Rattle.refusal.specs.Refusals.{first_refusal, unless}
+use Rattle.refusal.specs.declared.Refusal.{Refusal}
+use Rattle.refusal.specs.declared.Refusal.TheVariants.{ShortOutput}
 
 -- whether a buffer of so many bytes is too short
 abbrev pub too_short : List ℕ → ℕ → ℕ → Bool
 too_short text at size = ltb size (at + length text)
 
 -- the refusals of a call that puts a text into a buffer
-abbrev pub place_refusal : List ℕ → ℕ → ℕ → ℕ
-place_refusal text at size = first_refusal ((too_short text at size, 1) ∷ [])
+abbrev pub place_refusal : List ℕ → ℕ → ℕ → Option Refusal
+place_refusal text at size = first_refusal ((too_short text at size, ShortOutput) ∷ [])
 
 -- where the text ends, or the refusal
-abbrev pub answer_unless : ℕ → ℕ → LineAnswer
-answer_unless zero end = Written end
-answer_unless (suc n) end = Refused (suc n)
-
-unfoldable pub place_answer : List ℕ → ℕ → ℕ → LineAnswer
-place_answer text at size = answer_unless (place_refusal text at size) (at + length text)
+unfoldable pub place_answer : List ℕ → ℕ → ℕ → Result ℕ Refusal
+place_answer text at size = unless (place_refusal text at size) (at + length text)
 
 -- a buffer with the text in it
 abbrev pub written : List ℕ → ℕ → List ℕ → List ℕ
 written text at out = take at out ++ text ++ drop (at + length text) out
 
 -- the buffer afterwards
-abbrev pub writes_unless : ℕ → List ℕ → ℕ → List ℕ → List ℕ
-writes_unless zero text at out = written text at out
-writes_unless (suc n) text at out = out
+abbrev pub writes_unless : Option Refusal → List ℕ → ℕ → List ℕ → List ℕ
+writes_unless None text at out = written text at out
+writes_unless (Some f) text at out = out
 
 unfoldable pub place_writes : List ℕ → ℕ → List ℕ → List ℕ
 place_writes text at out = writes_unless (place_refusal text at (length out)) text at out
 
 -- where a text ends after the answer to a call for a line
-abbrev pub end_of : LineAnswer → ℕ → ℕ
-end_of (Written end) at = end
-end_of (Refused n) at = at
+abbrev pub end_of : Result ℕ Refusal → ℕ → ℕ
+end_of (Ok end) at = end
+end_of (Err f) at = at
 
 -- how many bytes of a name are written: it has no more than 16
 abbrev pub within : ℕ → ℕ
-within width = cond (ltb width 16) width 16
+within width = min width 16
 
 -- a helper of code: bytes put after the first `at` of a buffer, which stay, and where they end
 abbrev pub Appended : List ℕ → ℕ → List ℕ → List ℕ → ℕ → Type 0

@@ -2,14 +2,13 @@
 ghost use Rattle.std.specs.Prelude.{◌≡◌, ◌+◌, ◌/◌, ◌%◌, ◌≤◌, ◌<◌, [], ◌∷◌, length};
 ghost use Rattle.bits.specs.Ascii.{digit_byte};
 ghost use Rattle.text.specs.Text.{decimal};
-ghost use Rattle.text.specs.Placing.{written};
+ghost use Rattle.text.specs.Placing.{Put};
 
 // The last two digits of a number, with a zero in front of a single one. Both are made as one number, the first in its low byte: so
 // the compiler stores them at once.
 fn write_pair(n: u64, out: &mut [u8], at: usize) -> usize
     requires { at + 2 ≤ length out.old }
-    ensures end { result ≡ at + 2 }
-    ensures text { out.new ≡ written (digit_byte (n % 100 / 10) ∷ digit_byte (n % 100 % 10) ∷ []) at out.old }
+    ensures { Put out.old at (digit_byte (n % 100 / 10) ∷ digit_byte (n % 100 % 10) ∷ []) out.new result }
 {
     let pair = n % 100;
     let digits = 48 + pair / 10 + 256 * (48 + pair % 10);
@@ -21,8 +20,7 @@ fn write_pair(n: u64, out: &mut [u8], at: usize) -> usize
 // A number below a hundred.
 fn write_small(n: u64, out: &mut [u8], at: usize) -> usize
     requires { (n < 100) × (at + length (decimal n) ≤ length out.old) }
-    ensures end { result ≡ at + length (decimal n) }
-    ensures text { out.new ≡ written (decimal n) at out.old }
+    ensures { Put out.old at (decimal n) out.new result }
 {
     if n < 10 {
         out[at] = 48 + n as u8;
@@ -34,8 +32,7 @@ fn write_small(n: u64, out: &mut [u8], at: usize) -> usize
 // A number of three or four digits. Four are two pairs, side by side.
 fn write_hundreds(n: u64, out: &mut [u8], at: usize) -> usize
     requires { (100 ≤ n) × (n < 10000) × (at + length (decimal n) ≤ length out.old) }
-    ensures end { result ≡ at + length (decimal n) }
-    ensures text { out.new ≡ written (decimal n) at out.old }
+    ensures { Put out.old at (decimal n) out.new result }
 {
     if n < 1000 {
         let end = write_small(n / 100, out, at);
@@ -46,10 +43,9 @@ fn write_hundreds(n: u64, out: &mut [u8], at: usize) -> usize
 }
 
 // A number of up to four digits.
-pub(crate) fn write_short(n: u64, out: &mut [u8], at: usize) -> usize
+fn write_short(n: u64, out: &mut [u8], at: usize) -> usize
     requires { (n < 10000) × (at + length (decimal n) ≤ length out.old) }
-    ensures end { result ≡ at + length (decimal n) }
-    ensures text { out.new ≡ written (decimal n) at out.old }
+    ensures { Put out.old at (decimal n) out.new result }
 {
     if n < 100 {
         return write_small(n, out, at);
@@ -60,8 +56,7 @@ pub(crate) fn write_short(n: u64, out: &mut [u8], at: usize) -> usize
 // A number of three digits or more.
 fn write_long(n: u64, out: &mut [u8], at: usize) -> usize
     requires { (100 ≤ n) × (at + length (decimal n) ≤ length out.old) }
-    ensures end { result ≡ at + length (decimal n) }
-    ensures text { out.new ≡ written (decimal n) at out.old }
+    ensures { Put out.old at (decimal n) out.new result }
 {
     if n < 10000 {
         return write_hundreds(n, out, at);
@@ -73,8 +68,7 @@ fn write_long(n: u64, out: &mut [u8], at: usize) -> usize
 // A number. Those of up to six digits are the common ones, and take no recursion.
 pub(crate) fn write_decimal(n: u64, out: &mut [u8], at: usize) -> usize
     requires { at + length (decimal n) ≤ length out.old }
-    ensures end { result ≡ at + length (decimal n) }
-    ensures text { out.new ≡ written (decimal n) at out.old }
+    ensures { Put out.old at (decimal n) out.new result }
 {
     if n < 10000 {
         return write_short(n, out, at);

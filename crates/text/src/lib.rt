@@ -1,5 +1,6 @@
 // Text as bytes in a lent buffer, of any length. Each call writes a whole text from `at` on and answers where it
-// ends; where the buffer ends before the text, it writes nothing and answers with refusal 1.
+// ends; where the buffer ends before the text, it writes nothing and is refused with `ShortOutput`. A caller that goes on
+// where the last text ends asks for `.unwrap_or(at)`.
 //
 //   fields   a name, and a number after it
 //   signs    a signed number
@@ -12,18 +13,9 @@ mod decimal;
 mod fields;
 mod signs;
 
-pub use bytes::{end_of, place};
+pub use bytes::place;
 pub use fields::{byte, name, number};
 pub use signs::signed;
 
 // A name in its first bytes. What fills it up is not written.
 pub type Name = [u8; 16];
-
-// The answer to a call that writes a text.
-#[derive(Clone, Copy)]
-pub enum LineAnswer {
-    // Where the text ends.
-    Written(usize),
-    // The number of the refusal.
-    Refused(u8),
-}

@@ -7,11 +7,7 @@ pub write_long-end-requires : goal.write_long-end-requires
 write_long-end-requires t c = (omega (arith, c.decreases), (omega arith, omega (arith, decimal_length_more c.args.n (omega arith))))
 
 pub write_pair-requires : goal.write_pair-requires
-write_pair-requires t c = omega (arith, c.write_long-end.ensures.end, c.write_long-end.auto.out, decimal_length_more c.args.n (omega arith))
+write_pair-requires t c = omega (arith, decimal_length_more c.args.n (omega arith))
 
 pub returns : goal.returns
-returns t c =
-    let a = c.args in
-    let p = decimal_put a.n a.out.now _ _ a.at _ _ (omega arith) (omega arith)
-    (c.write_long-end.ensures.end, c.write_long-end.ensures.text) (c.write_pair.ensures.end, c.write_pair.ensures.text) in
-    record { end = p.0; text = p.1 }
+returns t c = decimal_put c.args.n c.args.out.now _ _ c.args.at _ _ (omega arith) (omega arith) c.write_long-end.ensures c.write_pair.ensures

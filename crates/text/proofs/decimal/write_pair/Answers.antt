@@ -30,4 +30,4 @@ returns c =
     let first : both a.n % 256 ≡ digit_byte (a.n % 100 / 10) = omega arith in
     let second : both a.n / 256 ≡ digit_byte (a.n % 100 % 10) = omega arith in
     let p = pair_put a.out.now a.at (both a.n % 256) (both a.n / 256) (omega arith) in
-    record { end = p.0; text = p.1 ∙ (λ i. written (first i ∷ second i ∷ []) a.at a.out.now) }
+    (p.0, p.1 ∙ (λ i. written (first i ∷ second i ∷ []) a.at a.out.now))

@@ -33,13 +33,13 @@ returns-then-n-lt10 c =
     let room = rw l at c.requires.1 in
     let p : Put a.out.now a.at (decimal a.n) (set a.out.now a.at (digit_byte a.n)) (a.at + 1) =
     rw l (byte_put a.out.now a.at (digit_byte a.n) (omega (arith, room))) in
-    record { end = p.0; text = p.1 }
+    p
 
 pub returns : goal.returns
 returns c =
     let a = c.args in
     let e : a.n % 100 ≡ a.n = omega arith in
-    let w : Put a.out.now a.at (pair (a.n % 100)) c.write_pair.new.out c.write_pair.result = (c.write_pair.ensures.end, c.write_pair.ensures.text) in
+    let w : Put a.out.now a.at (pair (a.n % 100)) c.write_pair.new.out c.write_pair.result = c.write_pair.ensures in
     let v : Put a.out.now a.at (pair a.n) c.write_pair.new.out c.write_pair.result = rw e at w in
     let p : Put a.out.now a.at (decimal a.n) c.write_pair.new.out c.write_pair.result = rw (decimal_two a.n (omega arith) c.requires.0) v in
-    record { end = p.0; text = p.1 }
+    p
