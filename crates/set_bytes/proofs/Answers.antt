@@ -13,7 +13,8 @@ use Rattle.bits.proofs.Cut.{cut_get_or}
 use Rattle.sets.specs.declared.ParameterSet.{ParameterSet}
 use Rattle.sets.specs.declared.ParameterSet.TheVariants.{Unvoiced, Voiced}
 use Rattle.set_bytes.specs.SetBytes.{bytes_of, read_indices, read_voicing, set_in, same, is_set, read_answer}
-use Rattle.set_bytes.specs.declared.SetAnswer.TheVariants.{Set, Refused}
+use Rattle.std.specs.Prelude.{Ok, Err}
+use Rattle.refusal.specs.declared.Refusal.TheVariants.{OutOfRange}
 use Rattle.set_bytes.proofs.Comparison.{same_append}
 use Rattle.set_bytes.proofs.SetBytes.{bytes_length, bytes_fits, fits_only, answer_is}
 
@@ -44,10 +45,10 @@ module _ (bytes : List ℕ) where
   set_unvoiced e = ap (λ (b : Bool). cond b voiced unvoiced) (ne_eqb (get_or bytes 0 0) 1 e)
 
   -- bytes of another number are those of no set
-  pub size_owes : (length bytes ≡ 11 → ⊥) → Refused 5 ≡ read_answer bytes
+  pub size_owes : (length bytes ≡ 11 → ⊥) → Err OutOfRange ≡ read_answer bytes
   size_owes h = go (is_set bytes) refl
     where
-      go : (b : Bool) → is_set bytes ≡ b → Refused 5 ≡ read_answer bytes
+      go : (b : Bool) → is_set bytes ≡ b → Err OutOfRange ≡ read_answer bytes
       go true e = absurd (h (ap length (fits_only bytes e) ∙ bytes_length (set_in bytes)))
       go false e = sym (answer_is bytes false e)
 
@@ -67,18 +68,18 @@ module _ (bytes : List ℕ) where
         ∙ ap (λ (l : List ℕ). same l (bytes_of unvoiced)) entries
 
     -- 1 in front: a voiced set
-    pub voiced_owes : get_or bytes 0 0 ≡ 1 → Set voiced ≡ read_answer bytes
+    pub voiced_owes : get_or bytes 0 0 ≡ 1 → Ok voiced ≡ read_answer bytes
     voiced_owes e =
         let own : bytes ≡ bytes_of voiced = sym entries ∙ ap (λ (n : ℕ). n ∷ cut (λ j. get_or bytes j 0) 1 10) e in
-        ap Set (sym (set_voiced e)) ∙ sym (answer_is bytes true (bytes_fits bytes voiced own))
+        ap Ok (sym (set_voiced e)) ∙ sym (answer_is bytes true (bytes_fits bytes voiced own))
 
   -- otherwise the bytes of the unvoiced set, or of none
-  pub unvoiced_owes : (get_or bytes 0 0 ≡ 1 → ⊥) → same bytes (bytes_of unvoiced) ≡ true → Set unvoiced ≡ read_answer bytes
+  pub unvoiced_owes : (get_or bytes 0 0 ≡ 1 → ⊥) → same bytes (bytes_of unvoiced) ≡ true → Ok unvoiced ≡ read_answer bytes
   unfolding is_set
   unvoiced_owes h e =
       let is = set_unvoiced h in
-      ap Set (sym is) ∙ sym (answer_is bytes true (ap (λ (s : ParameterSet). same bytes (bytes_of s)) is ∙ e))
+      ap Ok (sym is) ∙ sym (answer_is bytes true (ap (λ (s : ParameterSet). same bytes (bytes_of s)) is ∙ e))
 
-  pub other_owes : (get_or bytes 0 0 ≡ 1 → ⊥) → same bytes (bytes_of unvoiced) ≡ false → Refused 5 ≡ read_answer bytes
+  pub other_owes : (get_or bytes 0 0 ≡ 1 → ⊥) → same bytes (bytes_of unvoiced) ≡ false → Err OutOfRange ≡ read_answer bytes
   unfolding is_set
   other_owes h e = sym (answer_is bytes false (ap (λ (s : ParameterSet). same bytes (bytes_of s)) (set_unvoiced h) ∙ e))

@@ -1,16 +1,17 @@
 -- The eleven bytes of a set: a written set is read back as itself, and what is read as a set are exactly its bytes.
 -- Assumes nothing.
 use mathlib.Core.Path.{◌≡◌, refl, sym, ap, ◌∙◌}
-use mathlib.Core.Bool.{Bool, true, false, not, cond, false≢true}
+use mathlib.Core.Bool.{Bool, true, false, cond}
 use mathlib.Core.List.{List}
 use Prim.Native.Nat.{ℕ}
 use lib.ListN.{length}
+use Rattle.std.specs.Prelude.{Ok, Err}
+use Rattle.refusal.specs.declared.Refusal.{Refusal}
+use Rattle.refusal.specs.declared.Refusal.TheVariants.{OutOfRange}
 use Rattle.bits.proofs.Tests.{T_true, true_T}
 use Rattle.sets.specs.declared.ParameterSet.{ParameterSet}
 use Rattle.sets.specs.declared.ParameterSet.TheVariants.{Unvoiced, Voiced}
-use Rattle.set_bytes.specs.SetBytes.{bytes_of, set_in, same, is_set, set_unless, read_answer}
-use Rattle.set_bytes.specs.declared.SetAnswer.{SetAnswer}
-use Rattle.set_bytes.specs.declared.SetAnswer.TheVariants.{Set, Refused}
+use Rattle.set_bytes.specs.SetBytes.{bytes_of, set_in, same, is_set, read_answer}
 use Rattle.set_bytes.proofs.Comparison.{same_self, same_only}
 
 -- there are eleven
@@ -41,44 +42,33 @@ unfolding is_set
 fits_only bytes e = same_only bytes (bytes_of (set_in bytes)) (T_true (is_set bytes) e)
 
 -- the answer, by the test
-pub answer_is : (bytes : List ℕ) (b : Bool) → is_set bytes ≡ b → read_answer bytes ≡ cond b (Set (set_in bytes)) (Refused 5)
+pub answer_is : (bytes : List ℕ) (b : Bool) → is_set bytes ≡ b → read_answer bytes ≡ cond b (Ok (set_in bytes)) (Err OutOfRange)
 unfolding read_answer
-answer_is bytes true e = ap (λ (b : Bool). set_unless (cond (not b) 5 0) (set_in bytes)) e
-answer_is bytes false e = ap (λ (b : Bool). set_unless (cond (not b) 5 0) (set_in bytes)) e
+answer_is bytes true e = rw e refl
+answer_is bytes false e = rw e refl
 
 -- a written set is read back as itself
-pub bytes_taken : (set : ParameterSet) → read_answer (bytes_of set) ≡ Set set
-bytes_taken set = answer_is (bytes_of set) true (bytes_fits (bytes_of set) set refl) ∙ ap Set (bytes_back set)
-
--- which test an answer comes from, and the set in it
-passed : SetAnswer → Bool
-passed (Set x) = true
-passed (Refused n) = false
-
-set_or : ParameterSet → SetAnswer → ParameterSet
-set_or d (Set x) = x
-set_or d (Refused n) = d
+pub bytes_taken : (set : ParameterSet) → read_answer (bytes_of set) ≡ Ok set
+bytes_taken set = answer_is (bytes_of set) true (bytes_fits (bytes_of set) set refl) ∙ ap Ok (bytes_back set)
 
 -- an answer that is a set: the bytes pass, and would be those of it
-pub answer_taken : (bytes : List ℕ) (set : ParameterSet) → read_answer bytes ≡ Set set → (is_set bytes ≡ true) × (set_in bytes ≡ set)
-unfolding passed set_or
+pub answer_taken : (bytes : List ℕ) (set : ParameterSet) → read_answer bytes ≡ Ok set → (is_set bytes ≡ true) × (set_in bytes ≡ set)
 answer_taken bytes set e = go (is_set bytes) refl
   where
     go : (b : Bool) → is_set bytes ≡ b → (is_set bytes ≡ true) × (set_in bytes ≡ set)
-    go true q = (q, ap (set_or set) (sym (answer_is bytes true q) ∙ e))
-    go false q = absurd (false≢true (ap passed (sym (answer_is bytes false q) ∙ e)))
+    go true q = (q, cc (answer_is bytes true q))
+    go false q = absurd (cc (answer_is bytes false q))
 
 -- one that is a refusal: they do not pass
-pub answer_refused : (bytes : List ℕ) (n : ℕ) → read_answer bytes ≡ Refused n → is_set bytes ≡ false
-unfolding passed
-answer_refused bytes n e = go (is_set bytes) refl
+pub answer_refused : (bytes : List ℕ) (f : Refusal) → read_answer bytes ≡ Err f → is_set bytes ≡ false
+answer_refused bytes f e = go (is_set bytes) refl
   where
     go : (b : Bool) → is_set bytes ≡ b → is_set bytes ≡ false
-    go true q = absurd (false≢true (sym (ap passed (sym (answer_is bytes true q) ∙ e))))
+    go true q = absurd (cc (answer_is bytes true q))
     go false q = q
 
 -- what is read as a set are the bytes of that set
-pub taken_only : (bytes : List ℕ) (set : ParameterSet) → read_answer bytes ≡ Set set → bytes ≡ bytes_of set
+pub taken_only : (bytes : List ℕ) (set : ParameterSet) → read_answer bytes ≡ Ok set → bytes ≡ bytes_of set
 taken_only bytes set e =
     let t = answer_taken bytes set e in
     fits_only bytes t.0 ∙ ap bytes_of t.1

@@ -1,12 +1,12 @@
 -- Document 02, T-14: the eleven bytes of a set, and the set that bytes are those of. What ranges its indices have is asked elsewhere.
-use Rattle.std.specs.Prelude.{ℕ, zero, suc, Bool, true, false, not, ◌&&◌, cond, List, [], ◌∷◌, eqb, get_or}
-use Rattle.refusal.specs.Refusals.{first_refusal}
+use Rattle.std.specs.Prelude.{ℕ, Bool, true, false, not, ◌&&◌, cond, List, [], ◌∷◌, eqb, get_or, Option, Result}
+use Rattle.refusal.specs.Refusals.{first_refusal, unless}
+use Rattle.refusal.specs.declared.Refusal.{Refusal}
+use Rattle.refusal.specs.declared.Refusal.TheVariants.{OutOfRange}
 use Rattle.sets.specs.declared.Indices.{Indices}
 use Rattle.sets.specs.declared.Voicing.{Voicing}
 use Rattle.sets.specs.declared.ParameterSet.{ParameterSet}
 use Rattle.sets.specs.declared.ParameterSet.TheVariants.{Unvoiced, Voiced}
-use Rattle.set_bytes.specs.declared.SetAnswer.{SetAnswer}
-use Rattle.set_bytes.specs.declared.SetAnswer.TheVariants.{Set, Refused}
 
 -- 1 if voiced, pitch index, L1 to L4, G2, G1, B, F, flag, with 0 for all that an unvoiced set lacks
 abbrev pub bytes_of : ParameterSet → List ℕ
@@ -46,14 +46,10 @@ same (x ∷ xs) (y ∷ ys) = eqb x y && same xs ys
 unfoldable pub is_set : List ℕ → Bool
 is_set bytes = same bytes (bytes_of (set_in bytes))
 
--- the refusal, 0 is none: 5 for any other form
-abbrev pub read_refusal : List ℕ → ℕ
-read_refusal bytes = first_refusal ((not (is_set bytes), 5) ∷ [])
+-- the refusal: 5 for any other form
+abbrev pub read_refusal : List ℕ → Option Refusal
+read_refusal bytes = first_refusal ((not (is_set bytes), OutOfRange) ∷ [])
 
 -- the answer: the set, or the refusal
-abbrev pub set_unless : ℕ → ParameterSet → SetAnswer
-set_unless zero set = Set set
-set_unless (suc n) set = Refused (suc n)
-
-unfoldable pub read_answer : List ℕ → SetAnswer
-read_answer bytes = set_unless (read_refusal bytes) (set_in bytes)
+unfoldable pub read_answer : List ℕ → Result ParameterSet Refusal
+read_answer bytes = unless (read_refusal bytes) (set_in bytes)

@@ -9,12 +9,4 @@ mod reading;
 mod writing;
 
 pub use reading::read;
-use sets::ParameterSet;
 pub use writing::write;
-
-// The set in bytes, or the refusal of bytes in any other form.
-#[derive(Clone, Copy)]
-pub enum SetAnswer {
-    Set(ParameterSet),
-    Refused(u8),
-}

@@ -1,14 +1,13 @@
 // The set in bytes.
-ghost use Rattle.std.specs.Prelude.{◌≡◌, length};
+ghost use Rattle.std.specs.Prelude.{◌≡◌};
 ghost use Rattle.sets.specs.declared.ParameterSet.TheVariants.{Unvoiced};
 ghost use Rattle.set_bytes.specs.SetBytes.{same, bytes_of, read_indices, read_voicing, read_answer};
 
-use crate::SetAnswer;
+use refusal::Refusal;
 use sets::{Indices, ParameterSet, Voicing};
 
 // Bytes 2 to 7, which every set has.
-fn read_indices(bytes: &[u8]) -> Indices
-    requires { length bytes.now ≡ 11 }
+fn read_indices(bytes: &[u8; 11]) -> Indices
     ensures { result ≡ read_indices bytes.now }
 {
     Indices {
@@ -22,8 +21,7 @@ fn read_indices(bytes: &[u8]) -> Indices
 }
 
 // Bytes 1 and 8 to 10, which only a voiced set has.
-fn read_voicing(bytes: &[u8]) -> Voicing
-    requires { length bytes.now ≡ 11 }
+fn read_voicing(bytes: &[u8; 11]) -> Voicing
     ensures { result ≡ read_voicing bytes.now }
 {
     Voicing {
@@ -35,25 +33,24 @@ fn read_voicing(bytes: &[u8]) -> Voicing
 }
 
 // Whether eleven bytes are those of an unvoiced set: 0 in the first and in all that it lacks.
-fn is_unvoiced(bytes: &[u8]) -> bool
-    requires { length bytes.now ≡ 11 }
+fn is_unvoiced(bytes: &[u8; 11]) -> bool
     ensures { result ≡ same bytes.now (bytes_of (Unvoiced (read_indices bytes.now))) }
 {
     (bytes[0] == 0) & (bytes[1] == 0) & (bytes[8] == 0) & (bytes[9] == 0) & (bytes[10] == 0)
 }
 
 // The set that bytes are those of. Refused: 5, bytes that are not those of a set.
-pub fn read(bytes: &[u8]) -> SetAnswer
+pub fn read(bytes: &[u8]) -> Result<ParameterSet, Refusal>
     ensures { result ≡ read_answer bytes.now }
 {
-    if bytes.len() != 11 {
-        return SetAnswer::Refused(5);
-    }
+    let Some(bytes) = bytes.as_array::<11>() else {
+        return Err(Refusal::OutOfRange);
+    };
     if bytes[0] == 1 {
-        return SetAnswer::Set(ParameterSet::Voiced(read_indices(bytes), read_voicing(bytes)));
+        return Ok(ParameterSet::Voiced(read_indices(bytes), read_voicing(bytes)));
     }
     if is_unvoiced(bytes) {
-        return SetAnswer::Set(ParameterSet::Unvoiced(read_indices(bytes)));
+        return Ok(ParameterSet::Unvoiced(read_indices(bytes)));
     }
-    SetAnswer::Refused(5)
+    Err(Refusal::OutOfRange)
 }
