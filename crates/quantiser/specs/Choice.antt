@@ -1,10 +1,11 @@
 -- Document 01, "Gain levels" (5.3.3, 5.3.7): choosing codes from a first and a second level, and q, the second code before.
-use Rattle.std.specs.Prelude.{ℕ, zero, suc, ◌+◌, Bool, not, ◌&&◌, cond, [], ◌∷◌, leb, ltb, ℤ, pos, neg_ℤ, nat_abs, ◌-ℤ◌}
+use Rattle.std.specs.Prelude.{ℕ, zero, suc, ◌+◌, Bool, not, ◌&&◌, cond, [], ◌∷◌, leb, ltb, ℤ, pos, neg_ℤ, nat_abs, ◌-ℤ◌, Option, Result}
 use Rattle.std.specs.Int.Signed.{le_z}
-use Rattle.refusal.specs.Refusals.{first_refusal}
+use Rattle.refusal.specs.Refusals.{first_refusal, unless}
+use Rattle.refusal.specs.declared.Refusal.{Refusal}
+use Rattle.refusal.specs.declared.Refusal.TheVariants.{OutOfRange}
 use Rattle.gain.specs.Levels.{level, apart, mean, first_level}
-use Rattle.quantiser.specs.declared.CodesAnswer.{CodesAnswer}
-use Rattle.quantiser.specs.declared.CodesAnswer.TheVariants.{Codes, Refused}
+use Rattle.quantiser.specs.declared.GainCodes.{GainCodes}
 
 -- how far x is from the level l
 abbrev pub distance : ℤ → ℕ → ℕ
@@ -39,16 +40,14 @@ chosen_g1 first g2 q = cond (steady first g2 q) 0 (1 + nearest (seven_levels g2 
 abbrev pub level_in_range : ℤ → Bool
 level_in_range x = le_z (neg_ℤ (pos 18600)) x && le_z x (pos 37200)
 
--- the refusal of a choice: 5 where a level or q is out of range, 0 for none
-abbrev pub choose_refusal : ℤ → ℤ → ℕ → ℕ
-choose_refusal first second q = first_refusal ((not (level_in_range first && level_in_range second && leb q 31), 5) ∷ [])
+-- the refusal of a choice: a level or q is out of range
+abbrev pub choose_refusal : ℤ → ℤ → ℕ → Option Refusal
+choose_refusal first second q = first_refusal ((not (level_in_range first && level_in_range second && leb q 31), OutOfRange) ∷ [])
 
--- the codes where the refusal is 0, otherwise the refusal
-abbrev pub codes_unless : ℕ → ℕ → ℕ → CodesAnswer
-codes_unless zero g2 g1 = Codes g2 g1
-codes_unless (suc n) g2 g1 = Refused (suc n)
+-- both codes that are chosen
+abbrev pub chosen : ℤ → ℤ → ℕ → GainCodes
+chosen first second q = record { g2 = chosen_g2 second; g1 = chosen_g1 first (chosen_g2 second) q }
 
 -- the answer to a call for both codes
-unfoldable pub choose_answer : ℤ → ℤ → ℕ → CodesAnswer
-choose_answer first second q =
-    codes_unless (choose_refusal first second q) (chosen_g2 second) (chosen_g1 first (chosen_g2 second) q)
+unfoldable pub choose_answer : ℤ → ℤ → ℕ → Result GainCodes Refusal
+choose_answer first second q = unless (choose_refusal first second q) (chosen first second q)

@@ -1,27 +1,40 @@
 // From two levels to their gain codes (5.3.3).
-ghost use Rattle.std.specs.Prelude.{◌≡◌, true, ◌≤◌, leb, pos, ◌+ℤ◌};
-ghost use Rattle.gain.specs.Levels.{apart};
+ghost use Rattle.std.specs.Prelude.{◌≡◌, true, ◌≤◌, pos, ◌+ℤ◌};
+ghost use Rattle.gain.specs.Levels.{first_level};
 ghost use Rattle.quantiser.specs.Choice.{level_in_range, chosen_g2, steady, chosen_g1, choose_answer};
 
-use crate::CodesAnswer;
-use crate::levels::first_level_of;
+use crate::GainCodes;
 use crate::uniform::quantise;
+use refusal::Refusal;
 
 // Added to a level in range and to the levels that it is compared with, it leaves none below 0.
 const RAISE: u32 = 18600;
 
+// A level that codes are chosen for.
+#[derive(Clone, Copy)]
+struct Level {
+    value: i32,
+    ghost in_range: { level_in_range value ≡ true },
+}
+
+// The second code of a frame, and `q`, that of the frame before.
+#[derive(Clone, Copy)]
+struct SecondCodes {
+    g2: u8,
+    q: u8,
+    ghost in_range: { (g2 ≤ 31) × (q ≤ 31) },
+}
+
 // The codes of a frame's first and second level, after the second code `q`.
-pub fn choose(first: i32, second: i32, q: u8) -> CodesAnswer
+pub fn choose(first: i32, second: i32, q: u8) -> Result<GainCodes, Refusal>
     ensures { result ≡ choose_answer first second q }
 {
     if level_in_range(first) & level_in_range(second) & (q <= 31) {
-        let g2 = second_code(second);
-        CodesAnswer::Codes {
-            g2,
-            g1: first_code(first, g2, q),
-        }
+        let g2 = Level { value: second }.second_code();
+        let g1 = SecondCodes { g2, q }.first_code(Level { value: first });
+        Ok(GainCodes { g2, g1 })
     } else {
-        CodesAnswer::Refused(5)
+        Err(Refusal::OutOfRange)
     }
 }
 
@@ -32,49 +45,51 @@ fn level_in_range(x: i32) -> bool
     (-18600 <= x) & (x <= 37200)
 }
 
-// A level in range as an unsigned number, raised by `RAISE`.
-fn raised(x: i32) -> u32
-    requires { level_in_range x ≡ true }
-    ensures equal { pos result ≡ x +ℤ pos 18600 }
-    ensures bound { result ≤ 55800 }
-{
-    (x + 18600) as u32
-}
-
-// The index of the nearest of the 32 levels.
-fn second_code(second: i32) -> u8
-    requires { level_in_range second ≡ true }
-    ensures equal { result ≡ chosen_g2 second }
-    ensures bound { result ≤ 31 }
-{
-    quantise(RAISE + 1860, 402, 31, raised(second))
-}
-
-// 0 for a steady frame, otherwise 1 plus the index of the nearest of the seven levels.
-fn first_code(first: i32, g2: u8, q: u8) -> u8
-    requires { (level_in_range first ≡ true) × (g2 ≤ 31) × (q ≤ 31) }
-    ensures { result ≡ chosen_g1 first g2 q }
-{
-    if is_steady(first, g2, q) {
-        return 0;
+impl Level {
+    // The level as an unsigned number, raised by `RAISE`.
+    fn raised(self) -> u32
+        ensures equal { pos result ≡ self.value +ℤ pos 18600 }
+        ensures bound { result ≤ 55800 }
+    {
+        (self.value + 18600) as u32
     }
-    let lowest = first_level_of(g2, 1, q);
-    let step = first_level_of(g2, 2, q) - lowest;
-    1 + quantise(RAISE + lowest, step, 6, raised(first))
+
+    // The index of the nearest of the 32 levels.
+    fn second_code(self) -> u8
+        ensures equal { result ≡ chosen_g2 self.value }
+        ensures bound { result ≤ 31 }
+    {
+        quantise(RAISE + 1860, 402, 31, self.raised())
+    }
 }
 
-// Whether the second levels are close, and the first level is close to their mean.
-fn is_steady(first: i32, g2: u8, q: u8) -> bool
-    requires { (level_in_range first ≡ true) × (g2 ≤ 31) × (q ≤ 31) }
-    ensures { result ≡ steady first g2 q }
-{
-    let mean = first_level_of(g2, 0, q);
-    is_within(2, g2 as u32, q as u32) & is_within(558, raised(first), RAISE + mean)
-}
+impl SecondCodes {
+    // The level of a first code, by the call that refuses all others.
+    #[tactic(auto, using(gain::proofs::Answers::first_level_answered))]
+    fn level(self, code: u8) -> u32
+        requires { code ≤ 7 }
+        ensures { result ≡ first_level self.g2 code self.q }
+    {
+        gain::first_level(self.g2, code, self.q).unwrap()
+    }
 
-// Whether two numbers lie at most `most` apart.
-fn is_within(most: u32, a: u32, b: u32) -> bool
-    ensures { result ≡ leb (apart a b) most }
-{
-    if a < b { b - a <= most } else { a - b <= most }
+    // 0 for a steady frame, otherwise 1 plus the index of the nearest of the seven levels.
+    fn first_code(self, first: Level) -> u8
+        ensures { result ≡ chosen_g1 first.value self.g2 self.q }
+    {
+        if self.is_steady(first) {
+            return 0;
+        }
+        let lowest = self.level(1);
+        let step = self.level(2) - lowest;
+        1 + quantise(RAISE + lowest, step, 6, first.raised())
+    }
+
+    // Whether the second levels are close, and the first level is close to their mean.
+    fn is_steady(self, first: Level) -> bool
+        ensures { result ≡ steady first.value self.g2 self.q }
+    {
+        let mean = self.level(0);
+        (self.g2.abs_diff(self.q) <= 2) & (first.raised().abs_diff(RAISE + mean) <= 558)
+    }
 }

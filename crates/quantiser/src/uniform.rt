@@ -11,13 +11,11 @@ pub(crate) fn quantise(base: u32, step: u32, last: u8, value: u32) -> u8
     ensures bound { result ≤ last }
 {
     let mut level = base;
-    let mut i = 0;
-    while i < last {
+    for i in 0..last {
         if 2 * value <= 2 * level + step {
             return i;
         }
         level += step;
-        i += 1;
     }
     last
 }
