@@ -11,6 +11,7 @@ use lib.Seq.{length-take-le}
 use lib.IntN.{ℤ}
 use borrow.Author.Tests.{lt-ltb, eq-eqb}
 use Rattle.refusal.specs.Refusals.{first_refusal}
+use Rattle.refusal.specs.declared.Refusal.TheVariants.{EntryOutOfRange}
 use Rattle.codebook.specs.Rows.{lsf_size, stage_rows, stage_start, lsf_row, lsf_fits, lsf_row_refusal}
 use Rattle.codebook.specs.Rows.{magnitude_size, magnitude_row, magnitude_fits, magnitude_row_refusal}
 use Rattle.codebook.specs.Rows.{row_at, all_fit, row_unless}
@@ -35,7 +36,7 @@ pub record HandedRow (row : List ℤ) (fit : Bool) (r : List ℤ) : Type 0 where
   pub whole : fit ≡ true → r ≡ row
 
 -- the row where they fit, otherwise no numbers
-row_handed : (row : List ℤ) (fit : Bool) (r : List ℤ) → length row ≡ 10 → r ≡ row_unless (first_refusal ((not fit, 7) ∷ [])) row → HandedRow row fit r
+row_handed : (row : List ℤ) (fit : Bool) (r : List ℤ) → length row ≡ 10 → r ≡ row_unless (first_refusal ((not fit, EntryOutOfRange) ∷ [])) row → HandedRow row fit r
 row_handed row true r h e = record { ten = eq-eqb (length r) 10 (ap length e ∙ h); whole = λ t. e }
 row_handed row false r h e = record { ten = ap (λ (s : List ℤ). eqb (length s) 10) e; whole = λ t. absurd (false≢true t) }
 

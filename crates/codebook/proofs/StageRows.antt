@@ -1,11 +1,12 @@
 -- Where the stages of the LSF codebook begin, and that the rows of all four end with row 319.
 -- Assumes nothing.
-use mathlib.Core.Path.{◌≡◌, refl, ap, ◌∙◌}
+use mathlib.Core.Path.{◌≡◌, refl}
 use mathlib.Core.Bool.{Bool, true, false, cond}
 use Prim.Native.Nat.{ℕ, zero, suc, ◌+◌, ◌<◌}
 use native.Mathlib.Omega.{arith}
 use lib.Dec.{ltb}
-use borrow.Author.Tests.{ltb-true, lt-ltb, ne_eqb, le-leb, lt-leb}
+use borrow.Author.Tests.{ltb-true, ne_eqb, le-leb, lt-leb}
+use Rattle.std.specs.Prelude.{None, Some}
 use Rattle.codebook.specs.Rows.{stage_rows, stage_start}
 use Rattle.codebook.specs.RowNumbers.{lsf_row_number}
 
@@ -47,14 +48,10 @@ row_lt (suc (suc (suc zero))) index h = omega arith
 row_lt (suc (suc (suc (suc zero)))) index h = omega arith
 row_lt (suc (suc (suc (suc (suc n))))) index h = absurd (omega (arith, rows_none n))
 
--- what tests whether a row is there and looks only at one that is: by the row's number, or by its stage and index
-pub row_number_is : {X : Type 0} (f : Bool → ℕ → X) → ((j k : ℕ) → f false j ≡ f false k) → (stage index n : ℕ) → n ≡ lsf_row_number stage index
-    → (r : X) → r ≡ f (ltb n 320) n → r ≡ f (ltb index (stage_rows stage)) (stage_start stage + index)
-row_number_is f h stage index n e r p = p ∙ ap (λ (m : ℕ). f (ltb m 320) m) e ∙ go (ltb index (stage_rows stage)) refl
+-- a row that a stage has, by its number among all rows
+pub row_number_lt : (stage index k : ℕ) → lsf_row_number stage index ≡ Some k → k < 320
+row_number_lt stage index k e = go (ltb index (stage_rows stage)) refl e
   where
-    k : ℕ
-    k = stage_start stage + index
-
-    go : (t : Bool) → ltb index (stage_rows stage) ≡ t → f (ltb (cond t k 320) 320) (cond t k 320) ≡ f t k
-    go true e = ap (λ (t : Bool). f t k) (lt-ltb k 320 (row_lt stage index (ltb-true _ _ e)))
-    go false e = h 320 k
+    go : (t : Bool) → ltb index (stage_rows stage) ≡ t → cond t (Some (stage_start stage + index)) None ≡ Some k → k < 320
+    go true h e = let b : stage_start stage + index ≡ k = cc in rw (← b) (row_lt stage index (ltb-true _ _ h))
+    go false h e = cc

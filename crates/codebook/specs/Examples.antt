@@ -1,6 +1,7 @@
 -- Document 01, "LSF and magnitude values" and "Refusals by place", in numbers: where rows stand, and what is refused. Each fact is about what
 -- the calls answer.
-use Rattle.std.specs.Prelude.{ℕ, zero, suc, ◌-◌, ◌≡◌, List, [], ◌∷◌, ◌++◌, map, replicate, ℤ, pos, neg_ℤ}
+use Rattle.std.specs.Prelude.{ℕ, zero, suc, ◌-◌, ◌≡◌, List, [], ◌∷◌, ◌++◌, map, replicate, ℤ, pos, neg_ℤ, None, Some}
+use Rattle.refusal.specs.declared.Refusal.TheVariants.{OutOfRange, InvalidCodebook, EntryOutOfRange}
 use Rattle.codebook.specs.Rows.{lsf_row, magnitude_row, lsf_row_refusal, magnitude_row_refusal, row_unless}
 
 -- n numbers that count from k on; in a codebook that counts from 0 the entries of a row tell where it stands
@@ -29,34 +30,34 @@ pub record Places : Type 0 where
   pub magnitudes : map (handed_magnitudes (counting 0 2560)) (0 ∷ 255 ∷ 256 ∷ []) ≡ counting 0 10 ∷ counting 2550 10 ∷ [] ∷ []
 
 -- 5: an index one past the last row, and a stage that there is not
-pub record OutOfRange : Type 0 where
-  pub past_128 : map (lsf_row_refusal (counting 0 3200) 1) (127 ∷ 128 ∷ []) ≡ 0 ∷ 5 ∷ []
-  pub past_64 : map (λ stage. lsf_row_refusal (counting 0 3200) stage 64) (2 ∷ 3 ∷ 4 ∷ []) ≡ 5 ∷ 5 ∷ 5 ∷ []
-  pub no_stage : map (λ stage. lsf_row_refusal (counting 0 3200) stage 0) (0 ∷ 1 ∷ 4 ∷ 5 ∷ []) ≡ 5 ∷ 0 ∷ 0 ∷ 5 ∷ []
-  pub past_256 : map (magnitude_row_refusal (counting 0 2560)) (255 ∷ 256 ∷ []) ≡ 0 ∷ 5 ∷ []
+pub record Ranges : Type 0 where
+  pub past_128 : map (lsf_row_refusal (counting 0 3200) 1) (127 ∷ 128 ∷ []) ≡ None ∷ Some OutOfRange ∷ []
+  pub past_64 : map (λ stage. lsf_row_refusal (counting 0 3200) stage 64) (2 ∷ 3 ∷ 4 ∷ []) ≡ Some OutOfRange ∷ Some OutOfRange ∷ Some OutOfRange ∷ []
+  pub no_stage : map (λ stage. lsf_row_refusal (counting 0 3200) stage 0) (0 ∷ 1 ∷ 4 ∷ 5 ∷ []) ≡ Some OutOfRange ∷ None ∷ None ∷ Some OutOfRange ∷ []
+  pub past_256 : map (magnitude_row_refusal (counting 0 2560)) (255 ∷ 256 ∷ []) ≡ None ∷ Some OutOfRange ∷ []
 
 -- 6: a number too few or too many
 pub record Lengths : Type 0 where
-  pub lsf : map (λ size. lsf_row_refusal (counting 0 size) 1 0) (3199 ∷ 3200 ∷ 3201 ∷ []) ≡ 6 ∷ 0 ∷ 6 ∷ []
-  pub magnitudes : map (λ size. magnitude_row_refusal (counting 0 size) 0) (2559 ∷ 2560 ∷ 2561 ∷ []) ≡ 6 ∷ 0 ∷ 6 ∷ []
+  pub lsf : map (λ size. lsf_row_refusal (counting 0 size) 1 0) (3199 ∷ 3200 ∷ 3201 ∷ []) ≡ Some InvalidCodebook ∷ None ∷ Some InvalidCodebook ∷ []
+  pub magnitudes : map (λ size. magnitude_row_refusal (counting 0 size) 0) (2559 ∷ 2560 ∷ 2561 ∷ []) ≡ Some InvalidCodebook ∷ None ∷ Some InvalidCodebook ∷ []
 
 -- 7: entries at and past the limits
 pub record Limits : Type 0 where
-  pub lsf_above : map (λ n. lsf_row_refusal (zeros_but 3200 3199 (pos n)) 4 63) (4000000000 ∷ 4000000001 ∷ []) ≡ 0 ∷ 7 ∷ []
-  pub lsf_below : map (λ n. lsf_row_refusal (zeros_but 3200 3199 (neg_ℤ (pos n))) 4 63) (4000000000 ∷ 4000000001 ∷ []) ≡ 0 ∷ 7 ∷ []
-  pub magnitude_above : map (λ n. magnitude_row_refusal (zeros_but 2560 0 (pos n)) 0) (0 ∷ 4000000 ∷ 4000001 ∷ []) ≡ 0 ∷ 0 ∷ 7 ∷ []
-  pub magnitude_below : magnitude_row_refusal (zeros_but 2560 0 (neg_ℤ (pos 1))) 0 ≡ 7
-  pub row_not_in_use : lsf_row_refusal (zeros_but 3200 10 (pos 4000000001)) 1 0 ≡ 0
+  pub lsf_above : map (λ n. lsf_row_refusal (zeros_but 3200 3199 (pos n)) 4 63) (4000000000 ∷ 4000000001 ∷ []) ≡ None ∷ Some EntryOutOfRange ∷ []
+  pub lsf_below : map (λ n. lsf_row_refusal (zeros_but 3200 3199 (neg_ℤ (pos n))) 4 63) (4000000000 ∷ 4000000001 ∷ []) ≡ None ∷ Some EntryOutOfRange ∷ []
+  pub magnitude_above : map (λ n. magnitude_row_refusal (zeros_but 2560 0 (pos n)) 0) (0 ∷ 4000000 ∷ 4000001 ∷ []) ≡ None ∷ None ∷ Some EntryOutOfRange ∷ []
+  pub magnitude_below : magnitude_row_refusal (zeros_but 2560 0 (neg_ℤ (pos 1))) 0 ≡ Some EntryOutOfRange
+  pub row_not_in_use : lsf_row_refusal (zeros_but 3200 10 (pos 4000000001)) 1 0 ≡ None
 
 -- where several apply: 5 before 6, 6 before 7
 pub record First : Type 0 where
-  pub five : lsf_row_refusal (zeros_but 3199 0 (pos 4000000001)) 5 0 ≡ 5
-  pub six : lsf_row_refusal (zeros_but 3199 0 (pos 4000000001)) 1 0 ≡ 6
+  pub five : lsf_row_refusal (zeros_but 3199 0 (pos 4000000001)) 5 0 ≡ Some OutOfRange
+  pub six : lsf_row_refusal (zeros_but 3199 0 (pos 4000000001)) 1 0 ≡ Some InvalidCodebook
 
 -- all together
 pub record Examples : Type 0 where
   pub places : Places
-  pub out_of_range : OutOfRange
+  pub out_of_range : Ranges
   pub lengths : Lengths
   pub limits : Limits
   pub first : First

@@ -1,8 +1,10 @@
 -- Document 01, "LSF and magnitude values": the rows of a codebook (document 01's book). The LSF codebook is that of MIL-STD-3005, 5.3.4 and
 -- tables IV to VII, the codebook of magnitudes that of 5.3.5 and table VIII. Numbers are in millionths, of a hertz for LSF.
-use Rattle.std.specs.Prelude.{ℕ, zero, suc, ◌+◌, ◌*◌, Bool, true, not, ◌&&◌, cond, List, [], ◌∷◌, leb, ltb, eqb, length, take, drop, ℤ, pos, neg_ℤ}
+use Rattle.std.specs.Prelude.{ℕ, zero, suc, ◌+◌, ◌*◌, Bool, true, not, ◌&&◌, cond, List, [], ◌∷◌, leb, ltb, eqb, length, take, drop, ℤ, pos, neg_ℤ, Option, None, Some}
 use Rattle.std.specs.Int.Signed.{le_z}
-use Rattle.refusal.specs.Refusals.{first_refusal}
+use Rattle.refusal.specs.Refusals.{first_refusal, number_of}
+use Rattle.refusal.specs.declared.Refusal.{Refusal}
+use Rattle.refusal.specs.declared.Refusal.TheVariants.{OutOfRange, InvalidCodebook, EntryOutOfRange}
 
 -- how many numbers the LSF codebook has: the 320 rows of its four stages (5.3.4), ten in a row
 abbrev pub lsf_size : ℕ
@@ -50,26 +52,31 @@ unfoldable pub all_fit : (ℤ → Bool) → List ℤ → Bool
 all_fit fits [] = true
 all_fit fits (z ∷ zs) = fits z && all_fit fits zs
 
--- the refusal of a row of a stage ("Refusals by place"), 0 is none: 5, an index past the rows of its stage, and any index of another stage;
+-- the refusal of a row of a stage ("Refusals by place"): 5, an index past the rows of its stage, and any index of another stage;
 -- 6, a codebook of another length; 7, an entry of the row beyond its limit
-abbrev pub lsf_row_refusal : List ℤ → ℕ → ℕ → ℕ
+abbrev pub lsf_row_refusal : List ℤ → ℕ → ℕ → Option Refusal
 lsf_row_refusal codebook stage index =
     first_refusal (
-    (not (ltb index (stage_rows stage)), 5)
-    ∷ (not (eqb (length codebook) lsf_size), 6)
-    ∷ (not (all_fit lsf_fits (lsf_row codebook stage index)), 7)
+    (not (ltb index (stage_rows stage)), OutOfRange)
+    ∷ (not (eqb (length codebook) lsf_size), InvalidCodebook)
+    ∷ (not (all_fit lsf_fits (lsf_row codebook stage index)), EntryOutOfRange)
     ∷ [])
 
 -- the refusal of a row of magnitudes, likewise
-abbrev pub magnitude_row_refusal : List ℤ → ℕ → ℕ
+abbrev pub magnitude_row_refusal : List ℤ → ℕ → Option Refusal
 magnitude_row_refusal codebook index =
     first_refusal (
-    (not (ltb index 256), 5)
-    ∷ (not (eqb (length codebook) magnitude_size), 6)
-    ∷ (not (all_fit magnitude_fits (magnitude_row codebook index)), 7)
+    (not (ltb index 256), OutOfRange)
+    ∷ (not (eqb (length codebook) magnitude_size), InvalidCodebook)
+    ∷ (not (all_fit magnitude_fits (magnitude_row codebook index)), EntryOutOfRange)
     ∷ [])
 
 -- what is handed out: the row, or a part of no numbers where it is refused
-abbrev pub row_unless : ℕ → List ℤ → List ℤ
-row_unless zero row = row
-row_unless (suc n) row = []
+abbrev pub row_unless : Option Refusal → List ℤ → List ℤ
+row_unless None row = row
+row_unless (Some f) row = []
+
+-- and the number of the refusal that goes with it, 0 is none
+abbrev pub number_or_zero : Option Refusal → ℕ
+number_or_zero None = 0
+number_or_zero (Some f) = number_of f
