@@ -1,13 +1,12 @@
 -- Document 02, T-07: the burst width of an order, and what the call for it answers.
-use Rattle.std.specs.Prelude.{ℕ, zero, suc, ◌+◌, Bool, cond, ◌&&◌, List, leb, ltb}
+use Rattle.std.specs.Prelude.{ℕ, zero, suc, ◌+◌, Bool, cond, ◌&&◌, List, leb, ltb, Result}
 use Rattle.bits.specs.Bits.{ones}
 use Rattle.bits.specs.Lists.{every}
-use Rattle.refusal.specs.Refusals.{first_refusal}
+use Rattle.refusal.specs.Refusals.{first_refusal, unless}
+use Rattle.refusal.specs.declared.Refusal.{Refusal}
 use Rattle.order.specs.Order.{order_table}
 use Rattle.order.specs.Fields.{word_a, word_b, word_c, word_d, pitch_bits}
 use Rattle.bursts.specs.Flips.{logical_flips}
-use Rattle.bursts.specs.declared.WidthAnswer.{WidthAnswer}
-use Rattle.bursts.specs.declared.WidthAnswer.TheVariants.{Width, Refused}
 
 -- flips of all n neighbouring places from a place on
 abbrev pub burst : ℕ → ℕ → ℕ → Bool
@@ -30,10 +29,6 @@ largest (suc m) f = cond (f (suc m)) (suc m) (largest m f)
 unfoldable pub burst_width : List ℕ → ℕ
 burst_width ord = largest 54 (never_twice ord)
 
--- the answer: the width; a refusal is its number
-abbrev pub width_unless : ℕ → List ℕ → WidthAnswer
-width_unless zero ord = Width (burst_width ord)
-width_unless (suc n) ord = Refused (suc n)
-
-unfoldable pub width_answer : List ℕ → WidthAnswer
-width_answer ord = width_unless (first_refusal (order_table ord)) ord
+-- the answer: the width, or what refuses the list
+unfoldable pub width_answer : List ℕ → Result ℕ Refusal
+width_answer ord = unless (first_refusal (order_table ord)) (burst_width ord)

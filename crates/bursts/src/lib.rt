@@ -4,10 +4,3 @@
 mod width;
 
 pub use width::burst_width;
-
-// The burst width of an order, or the refusal.
-#[derive(Clone, Copy)]
-pub enum WidthAnswer {
-    Width(u8),
-    Refused(u8),
-}

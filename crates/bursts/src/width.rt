@@ -4,8 +4,8 @@ ghost use Rattle.order.specs.Order.{is_order};
 ghost use Rattle.bursts.specs.Width.{burst_width, width_answer};
 ghost use Rattle.bursts.specs.Distances.{part_of, same_part, apart_at};
 
-use crate::WidthAnswer;
 use order::is_order;
+use refusal::Refusal;
 
 // The part of a frame that a logical bit belongs to: 0 to 3 the words A to D, 4 the pitch code, 5 any other.
 fn part_of(bit: u8) -> u8
@@ -61,11 +61,12 @@ fn smallest_distance(order: &[u8]) -> u8
 }
 
 // The burst width of an order. Refused: 10, a list that is no order.
-pub fn burst_width(order: &[u8]) -> WidthAnswer
+pub fn burst_width(order: &[u8]) -> Result<u8, Refusal>
     ensures { result ≡ width_answer order.now }
 {
     if is_order(order) {
-        return WidthAnswer::Width(smallest_distance(order));
+        Ok(smallest_distance(order))
+    } else {
+        Err(Refusal::InvalidOrder)
     }
-    WidthAnswer::Refused(10)
 }
