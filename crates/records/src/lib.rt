@@ -10,6 +10,7 @@ mod repeats;
 mod state;
 
 pub use old::take_over;
+use refusal::Refusal;
 pub use repeats::is_muted;
 use sets::ParameterSet;
 pub use state::{fresh, is_valid};
@@ -38,9 +39,9 @@ pub struct OldRecord {
     pub kinds: [FrameKind; 16],
 }
 
-// An old record taken over: its refusal, 0 or 4, and the record beside it, since an enum cannot hold an array.
+// An old record taken over: what refuses it, and the new record beside it, which counts its repeats after a refusal too.
 #[derive(Clone, Copy)]
 pub struct TakenOver {
-    pub refusal: u8,
+    pub answer: Result<(), Refusal>,
     pub next: Record,
 }

@@ -1,21 +1,26 @@
 // A record that does not hold how many of its kinds are repeats, taken over.
 ghost use Rattle.std.specs.Prelude.{◌≡◌};
-ghost use Rattle.records.specs.OldRecords.{old_refusal, taken_over};
+ghost use Rattle.records.specs.OldRecords.{old_answer, taken_over};
 
 use crate::repeats::count_repeats;
 use crate::state::in_ranges;
 use crate::{OldRecord, Record, TakenOver};
+use refusal::Refusal;
 
-// What refuses an old record: 4, the last set or the last G2 out of its range.
-fn refusal_of(old: OldRecord) -> u8
-    ensures { result ≡ old_refusal old }
+// Whether an old record is taken. Refused: the last set or the last G2 is out of its range.
+fn answer_of(old: OldRecord) -> Result<(), Refusal>
+    ensures { result ≡ old_answer old }
 {
     let last = old.last;
-    if in_ranges(last, old.g2) { 0 } else { 4 }
+    if in_ranges(last, old.g2) {
+        Ok(())
+    } else {
+        Err(Refusal::InvalidRecord)
+    }
 }
 
-// The record with the number of its repeats, all else as it was, and the refusal beside it. With a record that is refused here
-// every receiving call answers 4.
+// The record with the number of its repeats, all else as it was, and beside it whether the old one is taken. With a record that
+// is refused here every receiving call gives the same refusal.
 pub fn take_over(old: OldRecord) -> TakenOver
     ensures { result ≡ taken_over old }
 {
@@ -28,7 +33,7 @@ pub fn take_over(old: OldRecord) -> TakenOver
         repeats: count_repeats(kinds),
     };
     TakenOver {
-        refusal: refusal_of(old),
+        answer: answer_of(old),
         next,
     }
 }

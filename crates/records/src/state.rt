@@ -7,6 +7,7 @@ use crate::{FrameKind, Record};
 use sets::{Indices, ParameterSet, is_in_range};
 
 // The record of a receiver that no frame has reached.
+#[tactic(auto, unfolding(crate::specs::Records::fresh))]
 pub fn fresh() -> Record
     ensures { result ≡ fresh }
 {

@@ -1,35 +1,19 @@
--- `records::repeats::count_repeats` meets its contract: the count and the repeats still to come are all of them. Assumes nothing.
-use mathlib.Core.Path.{◌≡◌, ap, ◌∙◌}
-use mathlib.Core.List.{List, []}
-use Prim.Native.Nat.{ℕ, ◌+◌, ◌≤◌, ◌<◌}
-use native.Mathlib.Numerals.{add-one}
+-- `records::repeats::count_repeats` meets its contract: what passes the filter is the repeats. Assumes nothing.
+use mathlib.Core.Path.{◌≡◌, refl}
+use mathlib.Core.Bool.{Bool, true, false, cond}
+use Prim.Native.Nat.{ℕ, ◌+◌}
 use native.Mathlib.Omega.{arith}
-use lib.ListN.{length, drop, get_or, drop_of_length-le}
-use lib.Seq.{drop-cons}
 use borrow.Author.Rules.{rules}
+use Rattle.std.proofs.lemmas.List.Recursion.{is_count_by}
 use Rattle.bits.specs.Bits.{add_one}
-use Rattle.bits.proofs.Count.{add_bit}
-use Rattle.records.specs.Records.{accepted_kind, repeats_in}
+use Rattle.records.specs.Records.{repeats_in}
 use Rattle.records.specs.declared.FrameKind.{FrameKind}
 use Rattle.records.proofs.repeats.count_repeats.Goals as goal
 
--- the repeats from place i on, by the kind at i
-from_place : (kinds : List FrameKind) (i : ℕ) → i < length kinds
-    → repeats_in (drop i kinds) ≡ add_one (get_or kinds i accepted_kind).repeat (repeats_in (drop (i + 1) kinds))
-from_place kinds i h = rw add-one (ap repeats_in (drop-cons kinds i accepted_kind h))
-
-pub loop-i-preserved : goal.loop-i-preserved
-loop-i-preserved c =
-    let i = c.loop-i.i in
-    let k = c.args.kinds in
-    let h : i < length k = omega arith in
-    let e = from_place k i h ∙ add_bit (get_or k i accepted_kind).repeat (repeats_in (drop (i + 1) k)) in
-    (search rules, search rules, search rules, omega (arith, e, c.bit_number-n.ensures.number))
+-- one more where a kind is a repeat
+add_is : (b : Bool) (n : ℕ) → add_one b n ≡ cond b (1 + n) n
+add_is true n = omega arith
+add_is false n = refl
 
 pub returns : goal.returns
-returns c =
-    let k = c.args.kinds in
-    let e : c.loop-i.i ≡ 16 = omega arith in
-    let m : length k ≤ 16 = omega arith in
-    let d : drop c.loop-i.i k ≡ [] = rw e (drop_of_length-le k m) in
-    omega (arith, ap repeats_in d)
+returns c = search (rules, is_count_by repeats_in (λ (kind : FrameKind). kind.repeat) refl (λ kind kinds. add_is kind.repeat (repeats_in kinds)))
