@@ -8,7 +8,9 @@ use lib.Dec.{eqb}
 use lib.ListN.{length, get_or}
 use borrow.Author.Tests.{eq-eqb, eqb-true}
 use Rattle.bits.specs.Bits.{ones, value, cut}
+use Rattle.std.specs.Prelude.{None}
 use Rattle.refusal.specs.Refusals.{first_refusal}
+use Rattle.refusal.specs.declared.Refusal.TheVariants.{FrameLength, PaddingBits, InvalidOrder}
 use Rattle.bits.proofs.Cut.{cut_append}
 use Rattle.bits.proofs.Tests.{true_T}
 use Rattle.order.specs.Order.{is_order, default_order, bit_at, frame_refusal}
@@ -50,19 +52,19 @@ padded_found g k n h p =
     ∙ ap (λ (b : Bool). b || any_padded (cut g (0 + (k + 1)) (n - (k + 1)))) (padded_more g k ∙ ap (λ (b : Bool). any_padded (cut g 0 k) || b) p ∙ or-true (any_padded (cut g 0 k)))
 
 -- what refuses a frame in the default order: its length and its padding bits
-refusal_is : (f : List ℕ) (a p : Bool) → eqb (length f) 7 ≡ a → is_padded f ≡ p → frame_refusal default_order f ≡ first_refusal ((not a, 2) ∷ (false, 10) ∷ (p, 3) ∷ [])
-refusal_is f a p e q i = first_refusal ((not (e i), 2) ∷ (not (true_T (is_order default_order) default_is_order i), 10) ∷ (q i, 3) ∷ [])
+refusal_is : (f : List ℕ) (a p : Bool) → eqb (length f) 7 ≡ a → is_padded f ≡ p → frame_refusal default_order f ≡ first_refusal ((not a, FrameLength) ∷ (false, InvalidOrder) ∷ (p, PaddingBits) ∷ [])
+refusal_is f a p e q i = first_refusal ((not (e i), FrameLength) ∷ (not (true_T (is_order default_order) default_is_order i), InvalidOrder) ∷ (q i, PaddingBits) ∷ [])
 
 -- seven bytes without padding bits are not refused
-pub good_is : (f : List ℕ) → length f ≡ 7 → is_padded f ≡ false → frame_refusal default_order f ≡ 0
+pub good_is : (f : List ℕ) → length f ≡ 7 → is_padded f ≡ false → frame_refusal default_order f ≡ None
 good_is f e p = refusal_is f true false (eq-eqb (length f) 7 e) p
 
 -- no others are so
-pub good_only : (f : List ℕ) → frame_refusal default_order f ≡ 0 → (length f ≡ 7) × (is_padded f ≡ false)
+pub good_only : (f : List ℕ) → frame_refusal default_order f ≡ None → (length f ≡ 7) × (is_padded f ≡ false)
 good_only f r = go (eqb (length f) 7) (is_padded f) refl refl (sym (refusal_is f (eqb (length f) 7) (is_padded f) refl refl) ∙ r)
   where
-    go : (b p : Bool) → eqb (length f) 7 ≡ b → is_padded f ≡ p → first_refusal ((not b, 2) ∷ (false, 10) ∷ (p, 3) ∷ []) ≡ 0
+    go : (b p : Bool) → eqb (length f) 7 ≡ b → is_padded f ≡ p → first_refusal ((not b, FrameLength) ∷ (false, InvalidOrder) ∷ (p, PaddingBits) ∷ []) ≡ None
         → (length f ≡ 7) × (is_padded f ≡ false)
-    go true true e q r = absurd (omega arith)
+    go true true e q r = cc
     go true false e q r = (eqb-true (length f) 7 e, q)
-    go false p e q r = absurd (omega arith)
+    go false p e q r = cc

@@ -1,8 +1,8 @@
 -- Document 02, T-01, in numbers: the file of one frame, that of document 01's example 6, and what the writer refuses.
-use Rattle.std.specs.Prelude.{ℕ, ◌≡◌, true, false, List, [], ◌∷◌, ◌++◌, replicate}
+use Rattle.std.specs.Prelude.{ℕ, ◌≡◌, true, false, List, [], ◌∷◌, ◌++◌, replicate, Ok, Err}
 use Prim.Native.String.{String}
 use Rattle.text.specs.Text.{ascii}
-use Rattle.text.specs.declared.LineAnswer.TheVariants.{Written, Refused}
+use Rattle.refusal.specs.declared.Refusal.TheVariants.{ShortOutput, FrameLength, PaddingBits}
 use Rattle.session.specs.Format.{session_text}
 use Rattle.session.specs.Writing.{is_whole, write_answer}
 
@@ -25,16 +25,16 @@ pub record Examples : Type 0 where
   pub text : session_text (frame ∷ []) ≡ file
   pub none : session_text [] ≡ after "frames=0\n"
   -- 48 and 31 bytes: just enough, and one too few
-  pub enough : write_answer frame 48 ≡ Written 48
-  pub short : write_answer frame 47 ≡ Refused 1
-  pub none_enough : write_answer [] 31 ≡ Written 31
-  pub none_short : write_answer [] 30 ≡ Refused 1
+  pub enough : write_answer frame 48 ≡ Ok 48
+  pub short : write_answer frame 47 ≡ Err ShortOutput
+  pub none_enough : write_answer [] 31 ≡ Ok 31
+  pub none_short : write_answer [] 30 ≡ Err ShortOutput
   -- padding bits, but for an output that is too short
-  pub padding : write_answer padded 48 ≡ Refused 3
-  pub padding_short : write_answer padded 47 ≡ Refused 1
+  pub padding : write_answer padded 48 ≡ Err PaddingBits
+  pub padding_short : write_answer padded 47 ≡ Err ShortOutput
   -- no whole frame, before an output that is too short
-  pub part : write_answer (0 ∷ []) 48 ≡ Refused 2
-  pub part_short : write_answer (0 ∷ []) 0 ≡ Refused 2
+  pub part : write_answer (0 ∷ []) 48 ≡ Err FrameLength
+  pub part_short : write_answer (0 ∷ []) 0 ≡ Err FrameLength
   -- 2,000 frames, and one more
   pub most : is_whole (replicate 14000 0) ≡ true
   pub too_many : is_whole (replicate 14007 0) ≡ false

@@ -1,11 +1,11 @@
 -- Document 02, T-01: what the writer of session files answers and leaves, for any bytes and any output.
-use Rattle.std.specs.Prelude.{ℕ, ◌*◌, ◌/◌, ◌%◌, Bool, false, not, ◌&&◌, ◌||◌, List, [], ◌∷◌, ◌++◌, ltb, leb, eqb, length, take, drop}
+use Rattle.std.specs.Prelude.{ℕ, ◌*◌, ◌/◌, ◌%◌, Bool, false, not, ◌&&◌, ◌||◌, List, [], ◌∷◌, ◌++◌, ltb, leb, eqb, length, take, drop, Option, Result}
 use Rattle.bits.specs.Bits.{ones, cut}
 use Rattle.bits.specs.Lists.{written_unless}
-use Rattle.refusal.specs.Refusals.{Table, first_refusal}
+use Rattle.refusal.specs.Refusals.{Table, first_refusal, unless}
+use Rattle.refusal.specs.declared.Refusal.{Refusal}
+use Rattle.refusal.specs.declared.Refusal.TheVariants.{ShortOutput, FrameLength, PaddingBits}
 use Rattle.order.specs.Order.{padding}
-use Rattle.text.specs.Placing.{answer_unless}
-use Rattle.text.specs.declared.LineAnswer.{LineAnswer}
 use Rattle.session.specs.Format.{session_text, most_frames}
 
 -- frame k of bytes that are frames one after another, counted from 0
@@ -40,15 +40,15 @@ text_of bytes = session_text (frames_of bytes)
 
 -- what refuses them, here 2 before 1: not 0 to 2,000 whole frames; an output shorter than the text; a frame with padding bits
 abbrev pub write_table : List ℕ → ℕ → Table
-write_table bytes room = (not (is_whole bytes), 2) ∷ (ltb room (length (text_of bytes)), 1) ∷ (any_padded (frames_of bytes), 3) ∷ []
+write_table bytes room = (not (is_whole bytes), FrameLength) ∷ (ltb room (length (text_of bytes)), ShortOutput) ∷ (any_padded (frames_of bytes), PaddingBits) ∷ []
 
--- the refusal, 0 is none
-abbrev pub write_refusal : List ℕ → ℕ → ℕ
+-- the refusal
+abbrev pub write_refusal : List ℕ → ℕ → Option Refusal
 write_refusal bytes room = first_refusal (write_table bytes room)
 
 -- the answer: where the text ends, or the refusal
-unfoldable pub write_answer : List ℕ → ℕ → LineAnswer
-write_answer bytes room = answer_unless (write_refusal bytes room) (length (text_of bytes))
+unfoldable pub write_answer : List ℕ → ℕ → Result ℕ Refusal
+write_answer bytes room = unless (write_refusal bytes room) (length (text_of bytes))
 
 -- the output afterwards: the text in front and all past it kept; after a refusal all kept
 unfoldable pub write_writes : List ℕ → List ℕ → List ℕ

@@ -5,7 +5,7 @@ ghost use Rattle.session.specs.Writing.{is_whole, text_of, write_answer, write_w
 
 use crate::header::{header_size, write_header};
 use crate::lines::{has_padding, write_lines};
-use text::LineAnswer;
+use refusal::Refusal;
 
 // 0 to 2,000 whole frames.
 fn is_whole(frames: &[u8]) -> bool
@@ -23,21 +23,21 @@ fn write_text(frames: &[u8], out: &mut [u8]) -> usize
     write_lines(frames, out, end)
 }
 
-// The text of frames, seven bytes each, to the front of `out`. Refused, in this order: 2, not 0 to 2,000 whole frames;
-// 1, an output shorter than the text; 3, a frame with one of its last two bits set.
-pub fn write(frames: &[u8], out: &mut [u8]) -> LineAnswer
+// The text of frames, seven bytes each, to the front of `out`. Refused, in this order: not 0 to 2,000 whole frames; an output
+// shorter than the text; a frame with one of its last two bits set.
+pub fn write(frames: &[u8], out: &mut [u8]) -> Result<usize, Refusal>
     ensures answer { result ≡ write_answer frames.now (length out.old) }
     ensures written { out.new ≡ write_writes frames.now out.old }
 {
     if !is_whole(frames) {
-        return LineAnswer::Refused(2);
+        return Err(Refusal::FrameLength);
     }
     let count = frames.len() / 7;
     if out.len() < header_size(count) + 17 * count {
-        return LineAnswer::Refused(1);
+        return Err(Refusal::ShortOutput);
     }
     if has_padding(frames) {
-        return LineAnswer::Refused(3);
+        return Err(Refusal::PaddingBits);
     }
-    LineAnswer::Written(write_text(frames, out))
+    Ok(write_text(frames, out))
 }
