@@ -6,18 +6,17 @@ use mathlib.Core.List.{List, ◌++◌}
 use Prim.Native.Nat.{ℕ, ◌+◌, ◌*◌, ◌/◌, ◌%◌, ◌≤◌, ◌<◌}
 use native.Mathlib.Omega.{arith}
 use lib.Dec.{lit≤}
+use Rattle.std.specs.Prelude.{Option, None, Some}
 use Rattle.bits.specs.Bits.{value, cut}
 use Rattle.bits.proofs.Cut.{cut_ext}
 use Rattle.pitch.specs.Pitch.{class_of}
 use Rattle.pitch.specs.declared.PitchClass.{PitchClass}
 use Rattle.pitch.specs.declared.PitchClass.TheVariants as class
 use Rattle.hamming.specs.Word.{decode}
-use Rattle.hamming.specs.declared.Decoded.{Decoded}
-use Rattle.hamming.specs.declared.Decoded.TheVariants as word
+use Rattle.hamming.specs.declared.Word.{Word}
 use Rattle.order.specs.Fields.{pitch_bits}
-use Rattle.reading.specs.Reading.{indices_of, voicing_of, pitch_repaired, from_words, by_class, read}
+use Rattle.reading.specs.Reading.{indices_of, voicing_of, pitch_repaired, accepted_as, from_words, by_class, read}
 use Rattle.sets.specs.declared.ParameterSet.TheVariants.{Unvoiced, Voiced}
-use Rattle.reading.specs.declared.Reading.TheVariants.{Accepted}
 
 module _ (g h : ℕ → Bool) (e : (j : ℕ) → j < 53 → g j ≡ h j) where
   -- a part of them
@@ -46,12 +45,13 @@ module _ (g h : ℕ → Bool) (e : (j : ℕ) → j < 53 → g j ≡ h j) where
   repaired_ext = ap pitch_repaired (cuts 28 7 (lit≤ tt))
 
   -- from the outcomes of the words
-  pub words_ext : (a b c d : Decoded) → from_words g a b c d ≡ from_words h a b c d
-  words_ext word.Erased b c d = refl
-  words_ext (word.Read a i) word.Erased c d = refl
-  words_ext (word.Read a i) (word.Read b j) word.Erased d = refl
-  words_ext (word.Read a i) (word.Read b j) (word.Read c k) word.Erased = refl
-  words_ext (word.Read a i) (word.Read b j) (word.Read c k) (word.Read d l) = λ t. Accepted (Unvoiced (indices_ext a b c d t)) (repaired_ext t + i + j + k + l)
+  pub words_ext : (a b c d : Option Word) → from_words g a b c d ≡ from_words h a b c d
+  words_ext None b c d = refl
+  words_ext (Some a) None c d = refl
+  words_ext (Some a) (Some b) None d = refl
+  words_ext (Some a) (Some b) (Some c) None = refl
+  words_ext (Some a) (Some b) (Some c) (Some d) =
+      λ t. accepted_as (Unvoiced (indices_ext a.data b.data c.data d.data t)) (repaired_ext t + a.repaired + b.repaired + c.repaired + d.repaired)
 
   -- by the class of the pitch code
   pub class_ext : (c : PitchClass) → by_class g c ≡ by_class h c
@@ -61,8 +61,8 @@ module _ (g h : ℕ → Bool) (e : (j : ℕ) → j < 53 → g j ≡ h j) where
       (decode 7 (cuts 21 7 (lit≤ tt) t)))
   class_ext class.Erased = refl
   class_ext (class.Voiced p) =
-      (λ t. Accepted (Voiced (indices_ext (value (cut g 0 4)) (value (cut g 8 3)) (value (cut g 14 4)) (value (cut g 21 4)) t) (voicing_ext p t)) 0)
-      ∙ (λ t. Accepted (Voiced (indices_of h (value (cuts 0 4 (lit≤ tt) t)) (value (cuts 8 3 (lit≤ tt) t)) (value (cuts 14 4 (lit≤ tt) t))
+      (λ t. accepted_as (Voiced (indices_ext (value (cut g 0 4)) (value (cut g 8 3)) (value (cut g 14 4)) (value (cut g 21 4)) t) (voicing_ext p t)) 0)
+      ∙ (λ t. accepted_as (Voiced (indices_of h (value (cuts 0 4 (lit≤ tt) t)) (value (cuts 8 3 (lit≤ tt) t)) (value (cuts 14 4 (lit≤ tt) t))
       (value (cuts 21 4 (lit≤ tt) t))) (voicing_of h p)) 0)
 
   -- bits that agree from 0 to 52 are read alike

@@ -6,6 +6,7 @@ use mathlib.Core.List.{◌++◌}
 use Prim.Native.Nat.{ℕ, ◌<◌}
 use native.Mathlib.Omega.{arith}
 use lib.Dec.{T, lit≤, ltb→lt}
+use Rattle.std.specs.Prelude.{Option, None, Some}
 use Rattle.bits.specs.Bits.{value, cut}
 use Rattle.bits.proofs.Tests.{and_both}
 use Rattle.bits.proofs.Value.{value_lt_at}
@@ -15,8 +16,7 @@ use Rattle.pitch.specs.declared.PitchClass.TheVariants as class
 use Rattle.pitch.proofs.Codes.{index_fits, class_index_fits}
 use Rattle.hamming.specs.Word.{decode}
 use Rattle.hamming.proofs.Bounds.{decode_bounded}
-use Rattle.hamming.specs.declared.Decoded.{Decoded}
-use Rattle.hamming.specs.declared.Decoded.TheVariants as word
+use Rattle.hamming.specs.declared.Word.{Word}
 use Rattle.order.specs.Fields.{word_a, word_b, word_c, word_d, pitch_bits}
 use Rattle.sets.specs.Sets.{indices_fit, voicing_fits}
 use Rattle.reading.specs.Reading.{indices_of, voicing_of, from_words, by_class, read, reading_fits}
@@ -47,12 +47,12 @@ module _ (g : ℕ → Bool) where
       })
 
   -- an unvoiced frame from outcomes that fit its words
-  pub words_fit : (a b c d : Decoded) → Outcomes a b c d → T (reading_fits (from_words g a b c d))
-  words_fit word.Erased b c d o = tt
-  words_fit (word.Read a i) word.Erased c d o = tt
-  words_fit (word.Read a i) (word.Read b j) word.Erased d o = tt
-  words_fit (word.Read a i) (word.Read b j) (word.Read c k) word.Erased o = tt
-  words_fit (word.Read a i) (word.Read b j) (word.Read c k) (word.Read d l) o = indices_fit_lem a b c d o.0.0 o.1.0 o.2.0 o.3.0
+  pub words_fit : (a b c d : Option Word) → Outcomes a b c d → T (reading_fits (from_words g a b c d))
+  words_fit None b c d o = tt
+  words_fit (Some a) None c d o = tt
+  words_fit (Some a) (Some b) None d o = tt
+  words_fit (Some a) (Some b) (Some c) None o = tt
+  words_fit (Some a) (Some b) (Some c) (Some d) o = indices_fit_lem a.data b.data c.data d.data o.0.0 o.1.0 o.2.0 o.3.0
 
   -- a frame of each class
   pub class_fits : (c : PitchClass) → T (index_fits c) → T (reading_fits (by_class g c))

@@ -15,7 +15,8 @@ use Rattle.pitch.specs.Pitch.{class_of}
 use Rattle.pitch.specs.declared.PitchClass.{PitchClass}
 use Rattle.pitch.specs.declared.PitchClass.TheVariants as class
 use Rattle.hamming.specs.Word.{syndrome, spare_column, erases, decode}
-use Rattle.hamming.specs.declared.Decoded.{Decoded}
+use Rattle.std.specs.Prelude.{Option}
+use Rattle.hamming.specs.declared.Word.{Word}
 use Rattle.order.specs.Fields.{word_a, word_b, word_c, word_d, pitch_bits}
 use Rattle.soft.specs.Choice.{choose}
 use Rattle.soft.proofs.Claims.{claims}
@@ -48,7 +49,7 @@ module _ (g : ℕ → Bool) (q : ℕ → ℕ) (k : ℕ) (all : AllEqual k q) whe
   -- where word A erases, word B plays no part
   a_erases : erases 8 (syndrome 8 (word_a g)) ≡ true → soft_by_class g q class.Unvoiced ≡ by_class g class.Unvoiced
   a_erases e =
-      ap (λ (a : Decoded). from_words g a (choose 6 (word_b q) (word_b g)) (choose 7 (word_c q) (word_c g)) (choose 7 (word_d q) (word_d g))) equal_a
+      ap (λ (a : Option Word). from_words g a (choose 6 (word_b q) (word_b g)) (choose 7 (word_c q) (word_c g)) (choose 7 (word_d q) (word_d g))) equal_a
       ∙ a_first g e _ _ _ ∙ sym (a_first g e (decode 6 (word_b g)) (decode 7 (word_c g)) (decode 7 (word_d g)))
 
   -- an unvoiced frame, by whether word B shows the spare's syndrome and whether word A erases

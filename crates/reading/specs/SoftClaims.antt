@@ -1,6 +1,6 @@
 -- Document 02, T-05: what is claimed of reading with confidences, for all logical bits g and all confidences q of theirs. Proved in the law file of
 -- this name; what is claimed of one word's choice stands in `soft:Claims`.
-use Rattle.std.specs.Prelude.{ℕ, ◌+◌, ◌<◌, ◌≡◌, Bool, false}
+use Rattle.std.specs.Prelude.{ℕ, ◌+◌, ◌<◌, ◌≡◌, Bool, false, None}
 use Rattle.bits.specs.Bits.{ones}
 use Rattle.pitch.specs.Pitch.{class_of}
 use Rattle.pitch.specs.declared.PitchClass.TheVariants as class
@@ -10,9 +10,8 @@ use Rattle.sets.specs.declared.Indices.{Indices}
 use Rattle.sets.specs.declared.ParameterSet.TheVariants.{Unvoiced}
 use Rattle.soft.specs.Choice.{differing, chosen}
 use Rattle.soft.specs.Claims.{Tied}
-use Rattle.reading.specs.Reading.{indices_of, pitch_repaired, read}
+use Rattle.reading.specs.Reading.{indices_of, pitch_repaired, accepted_as, read}
 use Rattle.reading.specs.SoftReading.{soft_read}
-use Rattle.reading.specs.declared.Reading.TheVariants.{Accepted, Erased}
 
 -- where reading with equal confidences differs: an unvoiced pitch code, word A does not erase, and word B shows the spare's syndrome
 pub record SpareShown (g : ℕ → Bool) : Type 0 where
@@ -51,12 +50,12 @@ module _ (g : ℕ → Bool) (q : ℕ → ℕ) where
     -- a voiced or erased pitch code: read as without confidences, so these play no part
     pub alone : (class_of (pitch_bits g) ≡ class.Unvoiced → ⊥) → soft_read g q ≡ read g
     -- an unvoiced one: two or more cheapest in word A erase the frame
-    pub tied : class_of (pitch_bits g) ≡ class.Unvoiced → Tied 8 (word_a q) (word_a g) → soft_read g q ≡ Erased
+    pub tied : class_of (pitch_bits g) ≡ class.Unvoiced → Tied 8 (word_a q) (word_a g) → soft_read g q ≡ None
     -- else the four data taken, and as repaired the word places that differ from the words taken and the pitch's own
     pub taken : class_of (pitch_bits g) ≡ class.Unvoiced → (Tied 8 (word_a q) (word_a g) → ⊥)
-        → soft_read g q ≡ Accepted (Unvoiced taken_indices) places_differing
+        → soft_read g q ≡ accepted_as (Unvoiced taken_indices) places_differing
     -- all confidences equal and above 0: read as without them, except where the spare is shown
     pub equal : (k : ℕ) → AllEqual k q → (SpareShown g → ⊥) → soft_read g q ≡ read g
     -- there the old way erases the frame, and this one reads the data taken
-    pub spare_erased : SpareShown g → read g ≡ Erased
-    pub spare_read : (k : ℕ) → AllEqual k q → SpareShown g → soft_read g q ≡ Accepted (Unvoiced taken_indices) places_differing
+    pub spare_erased : SpareShown g → read g ≡ None
+    pub spare_read : (k : ℕ) → AllEqual k q → SpareShown g → soft_read g q ≡ accepted_as (Unvoiced taken_indices) places_differing

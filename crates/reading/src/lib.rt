@@ -15,9 +15,10 @@ use sets::ParameterSet;
 pub use soft_unpacking::read_soft;
 pub use unpacking::read;
 
-// What a frame's bits are read as: a set with how many bits were repaired, or an erasure.
+// What a frame's bits are read as. A frame that is erased is read as nothing.
 #[derive(Clone, Copy)]
-pub enum Reading {
-    Accepted(ParameterSet, u8),
-    Erased,
+pub struct Accepted {
+    pub set: ParameterSet,
+    // How many bits were repaired.
+    pub repaired: u8,
 }

@@ -4,7 +4,7 @@ ghost use Rattle.bits.specs.Bits.{cut, carried};
 ghost use Rattle.pitch.specs.declared.PitchClass.TheVariants as class;
 ghost use Rattle.reading.specs.SoftReading.{soft_by_class, soft_read};
 
-use crate::Reading;
+use crate::Accepted;
 use crate::parts::part;
 use crate::pitch_code::class_of;
 use crate::unpacking::{from_words, voiced};
@@ -25,7 +25,7 @@ fn eight(confidences: [u8; 54], first: usize) -> [u8; 8]
 }
 
 // An unvoiced frame: each word is chosen by the confidences of its bits. Of eight the shorter words take the first few.
-fn soft_unvoiced(bits: u64, confidences: [u8; 54]) -> Reading
+fn soft_unvoiced(bits: u64, confidences: [u8; 54]) -> Option<Accepted>
     ensures { result ≡ soft_by_class (carried 54 bits) (λ j. get_or confidences j 0) class.Unvoiced }
 {
     let a = choose(WordLength::Eight, part(bits, 0, 8), eight(confidences, 0));
@@ -37,13 +37,13 @@ fn soft_unvoiced(bits: u64, confidences: [u8; 54]) -> Reading
 
 // What the logical bits in the low 54 bits of a number are read as, by the class of the pitch code, with the confidence of each
 // bit by its number. Only an unvoiced frame looks at these.
-pub fn read_soft(bits: u64, confidences: [u8; 54]) -> Reading
+pub fn read_soft(bits: u64, confidences: [u8; 54]) -> Option<Accepted>
     ensures { result ≡ soft_read (carried 54 bits) (λ j. get_or confidences j 0) }
 {
     let class = class_of(part(bits, 28, 7));
     match class {
         PitchClass::Unvoiced => soft_unvoiced(bits, confidences),
-        PitchClass::Erased => Reading::Erased,
+        PitchClass::Erased => None,
         PitchClass::Voiced(pitch) => voiced(bits, pitch),
     }
 }

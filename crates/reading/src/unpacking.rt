@@ -6,15 +6,15 @@ ghost use Rattle.order.specs.Fields.{pitch_bits};
 ghost use Rattle.pitch.specs.declared.PitchClass.TheVariants as class;
 ghost use Rattle.reading.specs.Reading.{pitch_repaired, from_words, by_class, read};
 
-use crate::Reading;
+use crate::Accepted;
 use crate::parts::{indices, part, voicing};
 use crate::pitch_code::{class_of, pitch_repaired};
-use hamming::{Decoded, WordLength, decode};
+use hamming::{Word, WordLength, decode};
 use pitch::PitchClass;
 use sets::ParameterSet;
 
 // A voiced frame: the bits as they stand.
-pub(crate) fn voiced(bits: u64, pitch: u8) -> Reading
+pub(crate) fn voiced(bits: u64, pitch: u8) -> Option<Accepted>
     ensures { result ≡ by_class (carried 54 bits) (class.Voiced pitch) }
 {
     let a = part(bits, 0, 4);
@@ -22,7 +22,7 @@ pub(crate) fn voiced(bits: u64, pitch: u8) -> Reading
     let c = part(bits, 14, 4);
     let d = part(bits, 21, 4);
     let set = ParameterSet::Voiced(indices(bits, a, b, c, d), voicing(bits, pitch));
-    Reading::Accepted(set, 0)
+    Some(Accepted { set, repaired: 0 })
 }
 
 // The repaired count of an unvoiced frame: that of its pitch code, and those of its words.
@@ -34,28 +34,27 @@ fn repaired_in(bits: u64, i: u8, j: u8, k: u8, l: u8) -> u8
 }
 
 // An unvoiced frame, from the outcomes of its four words, however they were chosen.
-pub(crate) fn from_words(bits: u64, a: Decoded, b: Decoded, c: Decoded, d: Decoded) -> Reading
+pub(crate) fn from_words(
+    bits: u64,
+    a: Option<Word>,
+    b: Option<Word>,
+    c: Option<Word>,
+    d: Option<Word>,
+) -> Option<Accepted>
     requires { Bounded 8 a × Bounded 6 b × Bounded 7 c × Bounded 7 d }
     ensures { result ≡ from_words (carried 54 bits) a b c d }
 {
-    let Decoded::Read(ua, i) = a else {
-        return Reading::Erased;
-    };
-    let Decoded::Read(ub, j) = b else {
-        return Reading::Erased;
-    };
-    let Decoded::Read(uc, k) = c else {
-        return Reading::Erased;
-    };
-    let Decoded::Read(ud, l) = d else {
-        return Reading::Erased;
-    };
-    let set = ParameterSet::Unvoiced(indices(bits, ua, ub, uc, ud));
-    Reading::Accepted(set, repaired_in(bits, i, j, k, l))
+    let a = a?;
+    let b = b?;
+    let c = c?;
+    let d = d?;
+    let set = ParameterSet::Unvoiced(indices(bits, a.data, b.data, c.data, d.data));
+    let repaired = repaired_in(bits, a.repaired, b.repaired, c.repaired, d.repaired);
+    Some(Accepted { set, repaired })
 }
 
 // An unvoiced frame: each word is checked and repaired.
-fn unvoiced(bits: u64) -> Reading
+fn unvoiced(bits: u64) -> Option<Accepted>
     ensures { result ≡ by_class (carried 54 bits) class.Unvoiced }
 {
     let a = decode(WordLength::Eight, part(bits, 0, 8));
@@ -66,13 +65,13 @@ fn unvoiced(bits: u64) -> Reading
 }
 
 // What the logical bits in the low 54 bits of a number are read as.
-pub fn read(bits: u64) -> Reading
+pub fn read(bits: u64) -> Option<Accepted>
     ensures { result ≡ read (carried 54 bits) }
 {
     let class = class_of(part(bits, 28, 7));
     match class {
         PitchClass::Unvoiced => unvoiced(bits),
-        PitchClass::Erased => Reading::Erased,
+        PitchClass::Erased => None,
         PitchClass::Voiced(pitch) => voiced(bits, pitch),
     }
 }

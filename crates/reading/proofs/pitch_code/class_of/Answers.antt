@@ -1,17 +1,11 @@
 -- `reading::pitch_code::class_of` meets its contract: a seven-bit code is not refused. Assumes nothing.
-use mathlib.Core.Path.{◌≡◌, sym, ap, ◌∙◌}
-use Rattle.bits.specs.Bits.{bits}
-use Rattle.pitch.specs.Pitch.{class_of, class_in}
-use Rattle.pitch.proofs.Answers.{class_in_is}
+use mathlib.Core.Path.{refl, ◌∙◌}
+use native.Mathlib.Omega.{arith}
+use Rattle.pitch.proofs.Answers.{class_answered}
 use Rattle.reading.proofs.pitch_code.class_of.Goals as goal
-use Rattle.reading.proofs.pitch_code.class_of.Goals.{After-classify}
 
--- the class in the call's answer is that of the code
-answered : (c : After-classify) → class_in c.classify.result ≡ class_of (bits 7 c.args.code)
-answered c = ap class_in c.classify.ensures ∙ class_in_is c.args.code c.requires
+pub unwrap-requires : goal.unwrap-requires
+unwrap-requires c = rw (c.classify.ensures ∙ class_answered c.args.code c.requires) refl
 
-pub returns-in-Class : goal.returns-in-Class
-returns-in-Class c = ap class_in (sym c.in-Class.is) ∙ answered (goal.at.returns-in-Class c).After-classify
-
-pub returns-in-Refused : goal.returns-in-Refused
-returns-in-Refused c = ap class_in (sym c.in-Refused.is) ∙ answered (goal.at.returns-in-Refused c).After-classify
+pub returns : goal.returns
+returns c = grind (arith, c.unwrap.ensures, c.classify.ensures, class_answered c.args.code c.requires)

@@ -1,18 +1,16 @@
 -- `reading::pitch_code::pitch_repaired` meets its contract: it goes by the count of ones. Assumes nothing.
-use mathlib.Core.Path.{sym, ap, ◌∙◌}
-use mathlib.Core.Bool.{Bool, cond}
-use native.Mathlib.Omega.{arith}
-use borrow.Author.Tests.{eq-eqb, ne_eqb}
-use Rattle.bits.specs.Bits.{ones, bits}
+use mathlib.Core.Path.{◌≡◌, refl, ap, ◌∙◌}
+use mathlib.Core.Bool.{Bool, true, false, cond}
+use Prim.Native.Nat.{ℕ}
+use Rattle.std.proofs.Common.{nat_eq}
+use Rattle.std.specs.Int.{from_bool}
 use Rattle.pitch.proofs.Classes.{count_low_is}
 use Rattle.reading.proofs.pitch_code.pitch_repaired.Goals as goal
 
-pub returns-then-code-eq1 : goal.returns-then-code-eq1
-returns-then-code-eq1 c =
-    let code = c.args.code in
-    record { count = sym (ap (λ (b : Bool). cond b 1 0) (eq-eqb (ones (bits 7 code)) 1 (sym (count_low_is code) ∙ c.if-code-eq1.true))); bound = omega arith }
+-- a truth value as a number
+as_number : (b : Bool) → from_bool b ≡ cond b 1 0
+as_number true = refl
+as_number false = refl
 
-pub returns-else-code-eq1 : goal.returns-else-code-eq1
-returns-else-code-eq1 c =
-    let code = c.args.code in
-    record { count = sym (ap (λ (b : Bool). cond b 1 0) (ne_eqb (ones (bits 7 code)) 1 (λ e. c.if-code-eq1.false (count_low_is code ∙ e)))); bound = omega arith }
+pub returns-clause-count : goal.returns-clause-count
+returns-clause-count c = c.from.ensures ∙ ap (λ (n : ℕ). from_bool (nat_eq n 1)) (count_low_is c.args.code) ∙ as_number _

@@ -6,7 +6,8 @@ use Prim.Native.Nat.{ℕ}
 use lib.ListN.{length, get_or, take}
 use Rattle.bits.specs.Bits.{carried}
 use Rattle.hamming.specs.Word.{Bounded}
-use Rattle.hamming.specs.declared.Decoded.{Decoded}
+use Rattle.std.specs.Prelude.{Option}
+use Rattle.hamming.specs.declared.Word.{Word}
 use Rattle.order.specs.Fields.{word_a, word_b, word_c, word_d}
 use Rattle.soft.specs.Choice.{choose}
 use Rattle.soft.proofs.Bounds.{choose_bounded}
@@ -56,7 +57,7 @@ module _ (at-d : After-choose-d) where
       ∙ (λ i. choose 7 (take 7 (at-d.eight-4.ensures i)) (bits_back g 21 7 _ at-d.part-4.ensures.part i))
 
 -- an outcome that is chosen for a word fits it
-fits : (n : ℕ) (q : List ℕ) (w : List Bool) (r : Decoded) → length w ≡ n → r ≡ choose n q w → Bounded n r
+fits : (n : ℕ) (q : List ℕ) (w : List Bool) (r : Option Word) → length w ≡ n → r ≡ choose n q w → Bounded n r
 fits n q w r l e = subst⁻¹ (Bounded n) e (choose_bounded n q w l)
 
 pub from_words-requires : goal.from_words-requires

@@ -6,7 +6,8 @@ use Prim.Native.Nat.{ℕ, ◌≤◌}
 use lib.Dec.{lit≤}
 use lib.ListN.{length}
 use Rattle.hamming.specs.Word.{decode, Bounded}
-use Rattle.hamming.specs.declared.Decoded.{Decoded}
+use Rattle.std.specs.Prelude.{Option}
+use Rattle.hamming.specs.declared.Word.{Word}
 use Rattle.hamming.proofs.Bounds.{decode_bounded}
 use Rattle.order.specs.Fields.{word_a, word_b, word_c, word_d}
 use Rattle.bits.specs.Bits.{carried}
@@ -42,7 +43,7 @@ module _ (at-d : After-decode-d) where
   read_d = at-d.decode-d.ensures ∙ ap (decode 7) (bits_back g 21 7 _ at-d.part-4.ensures.part)
 
 -- an outcome that a word is read as fits it
-fits : (n : ℕ) (w : List Bool) (r : Decoded) → 1 ≤ n → length w ≡ n → r ≡ decode n w → Bounded n r
+fits : (n : ℕ) (w : List Bool) (r : Option Word) → 1 ≤ n → length w ≡ n → r ≡ decode n w → Bounded n r
 fits n w r h l e = subst⁻¹ (Bounded n) e (decode_bounded n w h l)
 
 pub from_words-requires : goal.from_words-requires
