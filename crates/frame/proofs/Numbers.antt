@@ -1,10 +1,11 @@
 -- The logical bits of a set as one number, part by part.
 -- Assumes nothing.
 use mathlib.Core.Path.{◌≡◌, refl, sym, ap, ◌∙◌}
-use mathlib.Core.Bool.{Bool}
+use mathlib.Core.Bool.{Bool, true, false}
 use mathlib.Core.List.{List, [], ◌∷◌, ◌++◌}
-use Prim.Native.Nat.{ℕ, ◌+◌, ◌*◌, ◌/◌, ◌%◌, ◌^◌, ◌<◌}
+use Prim.Native.Nat.{ℕ, ◌+◌, ◌*◌, ◌/◌, ◌%◌, ◌^◌, ◌≤◌, ◌<◌}
 use native.Mathlib.Omega.{arith}
+use mir.Val.{bool_byte}
 use Rattle.bits.specs.Bits.{bit_num, value, bit, bits}
 use Rattle.bits.proofs.Value.{value_join}
 use Rattle.bits.proofs.Digits.{value_bits, value_bits_mod, bits_value, bits_mod, take_bits}
@@ -13,6 +14,15 @@ use Rattle.frame.specs.Layout.{data_a, data_b, data_c, data_d, words, unvoiced_w
 use Rattle.sets.specs.declared.Indices.{Indices}
 use Rattle.sets.specs.declared.Voicing.{Voicing}
 use Rattle.frame.proofs.SharedIndices.{data_a_is, data_c_is, data_d_is, data_a_value, data_b_value, data_c_value, data_d_value}
+
+-- a bit as a number
+pub bit_is_number : (b : Bool) → bool_byte b ≡ bit_num b
+bit_is_number true = refl
+bit_is_number false = refl
+
+pub bit_at_most_one : (b : Bool) → bool_byte b ≤ 1
+bit_at_most_one true = omega arith
+bit_at_most_one false = omega arith
 
 module _ (x : Indices) where
   -- the four words, from numbers in their parity places

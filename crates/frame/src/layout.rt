@@ -1,32 +1,11 @@
 // The 54 logical bits of a set and a sync bit, as one number: logical bit 0 is the most significant.
-ghost use Rattle.std.specs.Prelude.{◌≡◌, true, ◌+◌, ◌*◌, ◌≤◌, ◌<◌, ◌^◌};
-ghost use Rattle.bits.specs.Bits.{bit_num, value, bits};
-ghost use Rattle.pitch.specs.Pitch.{code_of};
+ghost use Rattle.std.specs.Prelude.{◌≡◌, true, ◌+◌, ◌*◌, ◌<◌, ◌^◌};
+ghost use Rattle.bits.specs.Bits.{value, bits};
 ghost use Rattle.sets.specs.Sets.{sendable};
 ghost use Rattle.frame.specs.Layout.{words, unvoiced_words, voiced_words, others, logical};
 
 use hamming::{WordLength, parity_of};
-use pitch::CodeAnswer;
 use sets::{Indices, ParameterSet, Voicing};
-
-// A bit as a number.
-fn bit_number(b: bool) -> u64
-    ensures number { result ≡ bit_num b }
-    ensures bound { result ≤ 1 }
-{
-    if b { 1 } else { 0 }
-}
-
-// The pitch code of an index in range, by the call that refuses all others.
-fn code_of(index: u8) -> u8
-    requires { index < 99 }
-    ensures { result ≡ code_of index }
-{
-    match pitch::encode(index) {
-        CodeAnswer::Code(code) => code,
-        CodeAnswer::Refused(_) => 0,
-    }
-}
 
 // Words of 8, 6, 7 and 7 bits as one number.
 fn joined(a: u8, b: u8, c: u8, d: u8) -> u64
@@ -58,7 +37,7 @@ fn other_bits(x: Indices, code: u8, sync: bool) -> u64
     ensures bound { result < 2 ^ 26 }
 {
     let spectrum = (x.l2 as u64 * 64 + x.l3 as u64) * 64 + x.l4 as u64;
-    (code as u64 * 0x4_0000 + spectrum) * 2 + bit_number(sync)
+    (code as u64 * 0x4_0000 + spectrum) * 2 + u64::from(sync)
 }
 
 // The four words of a voiced set: bandpass bits, Fourier index and flag in the parity places.
@@ -96,6 +75,6 @@ pub(crate) fn logical_number(set: ParameterSet, sync: bool) -> u64
     match set {
         ParameterSet::Unvoiced(x) => unvoiced_words(x) * ABOVE + other_bits(x, 0, sync),
         ParameterSet::Voiced(x, v) => voiced_words(x, v) * ABOVE
-            + other_bits(x, code_of(v.pitch), sync),
+            + other_bits(x, pitch::encode(v.pitch).unwrap(), sync),
     }
 }

@@ -5,10 +5,3 @@ mod layout;
 mod packing;
 
 pub use packing::{fresh_sync, pack};
-
-// A packed frame and the sync bit of the next one, or the refusal.
-#[derive(Clone, Copy)]
-pub enum PackAnswer {
-    Packed(bool),
-    Refused(u8),
-}
