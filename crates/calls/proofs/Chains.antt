@@ -6,6 +6,8 @@ use mathlib.Core.List.{List, [], ◌∷◌, map}
 use Prim.Native.Nat.{ℕ, suc}
 use lib.Dec.{T}
 use lib.ListN.{length}
+use Rattle.std.specs.Prelude.{Result, Ok}
+use Rattle.refusal.specs.declared.Refusal.{Refusal}
 use Rattle.bits.specs.Bits.{cut}
 use Rattle.bits.proofs.Cut.{cut_suc}
 use Rattle.order.specs.Order.{logical_bit}
@@ -17,8 +19,6 @@ use Rattle.receiver.specs.Steps.{accepted}
 use Rattle.receiver.specs.Receiving.{receive}
 use Rattle.receiver.specs.declared.FrameResult.{FrameResult}
 use Rattle.records.specs.declared.Record.{Record}
-use Rattle.receiver.specs.declared.ReceiveAnswer.{ReceiveAnswer}
-use Rattle.receiver.specs.declared.ReceiveAnswer.TheVariants.{Result}
 use Rattle.receiver.specs.declared.Received.{Received}
 use Rattle.receiver.proofs.Results.{result_in, step_answers, accepted_valid}
 use Rattle.damage.proofs.Arrival.{packed_accepted, arrived_taken}
@@ -42,14 +42,14 @@ module _ (ord : List ℕ) {P : PackKind} {R : ReceiveKind} where
 
   -- its receiving call answered with its result
   pub chain_answers : (r u : Record) (flips : ℕ → ℕ → Bool) (ws : List (Row P R)) → Chain ord r u flips ws
-      → map (λ w. w.receiving.answer) ws ≡ map (λ w. Result w.result) ws
+      → map (λ w. w.receiving.answer) ws ≡ map (λ w. Ok w.result) ws
   chain_answers r u flips [] h = refl
   chain_answers r u flips (w ∷ ws) h =
       let k = h.0 in
       let e = arrived_taken ord k.is_order_lem r k.is_valid w.packing.given w.flips (set_of w) in
-      let whole : (receive ord r (got ord w)).answer ≡ Result (result_in (receive ord r (got ord w)).answer) =
-      subst⁻¹ (λ (y : Received). y.answer ≡ Result (result_in y.answer)) e (step_answers r _ (read (logical_bit ord (got ord w)))) in
-      ap₂ (λ (a : ReceiveAnswer) (l : List ReceiveAnswer). a ∷ l) (k.answers ∙ whole ∙ ap Result (sym k.result_is)) (chain_answers (receive ord r (got ord w)).next _ _ ws h.2)
+      let whole : (receive ord r (got ord w)).answer ≡ Ok (result_in (receive ord r (got ord w)).answer) =
+      subst⁻¹ (λ (y : Received). y.answer ≡ Ok (result_in y.answer)) e (step_answers r _ (read (logical_bit ord (got ord w)))) in
+      ap₂ (λ (a : Result FrameResult Refusal) (l : List (Result FrameResult Refusal)). a ∷ l) (k.answers ∙ whole ∙ ap Ok (sym k.result_is)) (chain_answers (receive ord r (got ord w)).next _ _ ws h.2)
 
   -- what the clean receiver makes of the frame as sent
   clean_takes : (r u : Record) (w : Row P R) → Known ord r u w → T (valid u)

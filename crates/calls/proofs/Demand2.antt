@@ -7,6 +7,7 @@ use mathlib.Core.List.{List}
 use Prim.Native.Nat.{ℕ}
 use native.Mathlib.Omega.{arith}
 use lib.Dec.{T, lit<}
+use Rattle.std.specs.Prelude.{None}
 use Rattle.order.specs.Order.{Order, frame_of, logical_bit, frame_refusal}
 use Rattle.order.proofs.Frames.{sent_bit}
 use Rattle.order.proofs.Refusals.{packed_taken, taken_frame_back}
@@ -40,7 +41,7 @@ module _ (ord : List ℕ) (o : Order ord) where
 -- a receiving call with a valid record that gets the frame of bits g in its order does what the receiver does with it
 module _ (d : ReceiveCall receive_kind) (l : ReceiveStep d) (v : T (valid d.given)) (o : Order (receive_order d)) (g : ℕ → Bool)
     (f : frame_in d ≡ frame_of (receive_order d) g) where
-  call_taken : receive_call_refusal d ≡ 0
+  call_taken : receive_call_refusal d ≡ None
   call_taken = not_refused (receive_order d) d.given (frame_in d) (ap (frame_refusal (receive_order d)) f ∙ packed_taken (receive_order d) o g) v
 
   module _ (y : Received) (e : receive (receive_order d) d.given (frame_of (receive_order d) g) ≡ y) where
@@ -57,7 +58,7 @@ call_reads d l v o g f =
     let e = bits_read (receive_order d) o d.given v g in
     record { answer = call_answer d l v o g f y e; left = call_record d l v o g f y e }
 
-packed_returns : (c : PackCall pack_kind) (d : ReceiveCall receive_kind) → PackStep c → ReceiveStep d → pack_call_refusal c ≡ 0 → T (valid d.given)
+packed_returns : (c : PackCall pack_kind) (d : ReceiveCall receive_kind) → PackStep c → ReceiveStep d → pack_call_refusal c ≡ None → T (valid d.given)
     → receive_order d ≡ pack_order c → frame_in d ≡ sent c → Returns c d
 unfolding accepted
 packed_returns c d k l e v p f =

@@ -4,6 +4,7 @@ use mathlib.Core.Path.{◌≡◌, refl}
 use mathlib.Core.Bool.{Bool}
 use mathlib.Core.List.{List}
 use Prim.Native.Nat.{ℕ}
+use Rattle.std.specs.Prelude.{None}
 use Rattle.frame.specs.Packing.{fresh_sync}
 use Rattle.records.specs.Records.{fresh}
 use Rattle.records.specs.declared.Record.{Record}
@@ -23,12 +24,12 @@ module _ (ord : List ℕ) {P : PackKind} {R : ReceiveKind} (ps : List (PackCall 
   -- the calls that are not refused, in rows
   frames : Aligned ord start fresh flips (unrefused pack_call_refusal ps) (unrefused receive_call_refusal rs)
   frames =
-      let packs = run_unrefused (λ c. c.given) pack_left PackStep pack_call_refusal (λ c n k. pack_leaves c k n) fresh_sync ps s.packing in
-      let takes = run_unrefused (λ c. c.given) (λ c. c.left) ReceiveStep receive_call_refusal (λ c n k. receive_leaves c k n) start rs s.receiving in
+      let packs = run_unrefused (λ c. c.given) pack_left PackStep pack_call_refusal (λ c f k. pack_leaves c k f) fresh_sync ps s.packing in
+      let takes = run_unrefused (λ c. c.given) (λ c. c.left) ReceiveStep receive_call_refusal (λ c f k. receive_leaves c k f) start rs s.receiving in
       calls_aligned ord fresh_sync start fresh flips (unrefused pack_call_refusal ps) (unrefused receive_call_refusal rs)
-      (run_with (λ c. c.given) pack_left (λ c. PackStep c × (pack_call_refusal c ≡ 0)) (λ c. pack_order c ≡ ord) fresh_sync (unrefused pack_call_refusal ps) packs
+      (run_with (λ c. c.given) pack_left (λ c. PackStep c × (pack_call_refusal c ≡ None)) (λ c. pack_order c ≡ ord) fresh_sync (unrefused pack_call_refusal ps) packs
       s.packed_same)
-      (run_with (λ c. c.given) (λ c. c.left) (λ c. ReceiveStep c × (receive_call_refusal c ≡ 0)) (λ c. receive_order c ≡ ord) start
+      (run_with (λ c. c.given) (λ c. c.left) (λ c. ReceiveStep c × (receive_call_refusal c ≡ None)) (λ c. receive_order c ≡ ord) start
       (unrefused receive_call_refusal rs) takes s.received_same)
       s.delivered
 

@@ -5,6 +5,7 @@ use mathlib.Core.List.{[], ◌∷◌}
 use lib.ListN.{length}
 use borrow.Author.Tests.{le-ltb}
 use Rattle.refusal.specs.Refusals.{first_refusal}
+use Rattle.refusal.specs.declared.Refusal.TheVariants.{ShortOutput, OutOfRange, InvalidOrder}
 use Rattle.bits.proofs.Tests.{true_T}
 use Rattle.order.specs.Order.{is_order}
 use Rattle.order.proofs.Orders.{is_order_lem}
@@ -35,4 +36,4 @@ sessions_had = sessions CodePacks code_packs pack_had CodeReceivesBy receive_had
 
 pub orders_pack : OrdersPack
 orders_pack ord o set t lent h i =
-    first_refusal ((le-ltb (length lent) 7 h i, 1) ∷ (not (true_T (is_order ord) (is_order_lem ord o) i), 10) ∷ (not (true_T (sendable set) t i), 5) ∷ [])
+    first_refusal ((le-ltb (length lent) 7 h i, ShortOutput) ∷ (not (true_T (is_order ord) (is_order_lem ord o) i), InvalidOrder) ∷ (not (true_T (sendable set) t i), OutOfRange) ∷ [])

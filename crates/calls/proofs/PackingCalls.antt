@@ -3,14 +3,17 @@
 use mathlib.Core.Path.{◌≡◌, refl, sym, ap, ap₂, ◌∙◌, subst⁻¹}
 use mathlib.Core.Bool.{Bool, not}
 use mathlib.Core.List.{List, [], ◌++◌}
-use Prim.Native.Nat.{ℕ, zero, suc}
+use Prim.Native.Nat.{ℕ}
 use denote.Ref.{Bor, MutBor}
 use lib.ListN.{length, take, drop}
 use lib.Seq.{take-append_seam}
+use Rattle.std.specs.Prelude.{Option, None, Some}
+use Rattle.refusal.specs.Refusals.{unless}
+use Rattle.refusal.specs.declared.Refusal.{Refusal}
 use Rattle.order.proofs.Frames.{frame_length}
 use Rattle.frame.specs.Layout.{logical_of, frame}
 use Rattle.bits.specs.Lists.{written_unless}
-use Rattle.frame.specs.Packing.{pack_refusal, packed_unless, pack_answer, pack_writes}
+use Rattle.frame.specs.Packing.{pack_refusal, pack_answer, pack_writes}
 use Rattle.sets.specs.declared.ParameterSet.{ParameterSet}
 use Rattle.calls.specs.Model.{done, pack_unless, PackArguments, pack_kind}
 use Rattle.calls.specs.Calls.{PackCall, PackStep}
@@ -43,13 +46,13 @@ module _ (ord : List ℕ) (set : ParameterSet) (sync : Bool) where
       ap (λ (n : ℕ). take n (frame ord set sync ++ rest)) (sym (frame_length ord (logical_of set sync))) ∙ take-append_seam (frame ord set sync) rest
 
   -- what the contract says is the model's step, whatever the refusal
-  pub pack_step : (lent : List ℕ) (n : ℕ) → pack_refusal ord set (length lent) ≡ n
-      → PackStep (pack_call ord set sync lent (packed_unless n sync) (written_unless n 7 (frame ord set sync) lent))
-  pack_step lent zero e = record {
-    outcome = (λ i. record { answer = done (frame_front (drop 7 lent) i); state = not sync }) ∙ sym (ap (λ (n : ℕ). pack_unless n ord sync set) e);
+  pub pack_step : (lent : List ℕ) (n : Option Refusal) → pack_refusal ord set (length lent) ≡ n
+      → PackStep (pack_call ord set sync lent (unless n (not sync)) (written_unless n 7 (frame ord set sync) lent))
+  pack_step lent None e = record {
+    outcome = (λ i. record { answer = done (frame_front (drop 7 lent) i); state = not sync }) ∙ sym (ap (λ (n : Option Refusal). pack_unless n ord sync set) e);
     output = ap (λ (l : List ℕ). l ++ drop 7 lent) (sym (frame_front (drop 7 lent)));
   }
-  pack_step lent (suc n) e = record { outcome = sym (ap (λ (n : ℕ). pack_unless n ord sync set) e); output = refl }
+  pack_step lent (Some f) e = record { outcome = sym (ap (λ (n : Option Refusal). pack_unless n ord sync set) e); output = refl }
 
 -- so a packing call of the code does what the model does
 pub code_packs : (c : PackCall pack_kind) → CodePacks c → PackStep c

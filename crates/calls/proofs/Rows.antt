@@ -5,6 +5,7 @@ use mathlib.Core.Bool.{Bool}
 use mathlib.Core.List.{List, [], ◌∷◌, map, nil≢cons, cons≢nil, head-eq_of_cons-eq, tail-eq_of_cons-eq}
 use Prim.Native.Nat.{ℕ, suc}
 use lib.Dec.{T}
+use Rattle.std.specs.Prelude.{None}
 use Rattle.order.specs.Order.{Order, through}
 use Rattle.sets.specs.Sets.{sendable}
 use Rattle.frame.specs.Layout.{frame}
@@ -23,10 +24,10 @@ use Rattle.calls.proofs.Steps.{pack_order_lem, pack_sendable, pack_sent, receive
 
 -- a call that keeps to the model, is not refused and is lent the order
 abbrev pub PacksFrame : List ℕ → {P : PackKind} → PackCall P → Type 0
-PacksFrame ord c = (PackStep c × (pack_call_refusal c ≡ 0)) × (pack_order c ≡ ord)
+PacksFrame ord c = (PackStep c × (pack_call_refusal c ≡ None)) × (pack_order c ≡ ord)
 
 abbrev pub TakesFrame : List ℕ → {R : ReceiveKind} → ReceiveCall R → Type 0
-TakesFrame ord c = (ReceiveStep c × (receive_call_refusal c ≡ 0)) × (receive_order c ≡ ord)
+TakesFrame ord c = (ReceiveStep c × (receive_call_refusal c ≡ None)) × (receive_order c ≡ ord)
 
 -- the frame that such a call packs
 pub packs_frame : (ord : List ℕ) {P : PackKind} (c : PackCall P) → PacksFrame ord c → sent c ≡ frame ord (set_in c) c.given

@@ -7,6 +7,8 @@ use Prim.Native.Nat.{ℕ}
 use native.Mathlib.Omega.{arith}
 use lib.Dec.{T}
 use lib.ListN.{length}
+use Rattle.std.specs.Prelude.{Option, None}
+use Rattle.refusal.specs.declared.Refusal.{Refusal}
 use Rattle.bits.specs.Lists.{Every}
 use Rattle.order.specs.Order.{frame_refusal}
 use Rattle.records.specs.Records.{valid}
@@ -36,12 +38,12 @@ module _ {Way : Type 0} (Receives : Way → ReceiveCall receive_kind → Type 0)
 
   module _ (r : Record) (v : T (valid r)) (way : Way) (script : List (Wish Way)) (bs : List (List ℕ)) where
     -- one more call that takes a frame
-    next_served : (b : List ℕ) → Served (receive ord r b).next script bs → frame_refusal ord b ≡ 0 → Served r (next way ∷ script) (b ∷ bs)
+    next_served : (b : List ℕ) → Served (receive ord r b).next script bs → frame_refusal ord b ≡ None → Served r (next way ∷ script) (b ∷ bs)
     next_served b rest e =
         let x : ReceiveArguments = record { order = ord; frame = b } in
         let taken = not_refused ord r b e v in
         let kept : unrefused receive_call_refusal (receive_one r x ∷ rest.receives) ≡ receive_one r x ∷ unrefused receive_call_refusal rest.receives =
-        ap (λ (n : ℕ). keep_unless n (receive_one r x) (unrefused receive_call_refusal rest.receives)) taken in
+        ap (λ (n : Option Refusal). keep_unless n (receive_one r x) (unrefused receive_call_refusal rest.receives)) taken in
         record {
           receives = receive_one r x ∷ rest.receives;
           granted = (receive_had way r x, taken, rest.granted);
@@ -51,7 +53,7 @@ module _ {Way : Type 0} (Receives : Way → ReceiveCall receive_kind → Type 0)
         }
 
     -- and one that is refused
-    other_served : (x : ReceiveArguments) → Served (receive x.order r x.frame).next script bs → ¬ (frame_refusal x.order x.frame ≡ 0)
+    other_served : (x : ReceiveArguments) → Served (receive x.order r x.frame).next script bs → ¬ (frame_refusal x.order x.frame ≡ None)
         → Served r (other way x ∷ script) bs
     other_served x rest e =
         let left : unrefused receive_call_refusal (receive_one r x ∷ rest.receives) ≡ unrefused receive_call_refusal rest.receives =
@@ -66,7 +68,7 @@ module _ {Way : Type 0} (Receives : Way → ReceiveCall receive_kind → Type 0)
         }
 
   pub script_served : (r : Record) (script : List (Wish Way)) (bs : List (List ℕ)) → T (valid r) → nexts script ≡ length bs → Every OtherRefused script
-      → Every (λ b. frame_refusal ord b ≡ 0) bs → Served r script bs
+      → Every (λ b. frame_refusal ord b ≡ None) bs → Served r script bs
   script_served r [] [] v n q h = record { receives = []; granted = tt; run = tt; same = tt; delivered = refl }
   script_served r [] (b ∷ bs) v n q h = absurd (omega arith)
   script_served r (next way ∷ script) [] v n q h = absurd (omega arith)

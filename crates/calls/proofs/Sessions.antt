@@ -2,16 +2,18 @@
 -- calls there are such lists of calls, wherever a call of each kind can be had, and every frame packed is received.
 -- Assumes nothing.
 use mathlib.Core.Path.{◌≡◌, refl, sym, ap, ◌∙◌, subst⁻¹}
-use mathlib.Core.Bool.{Bool}
+use mathlib.Core.Bool.{Bool, not}
 use mathlib.Core.List.{List, [], ◌∷◌, map}
 use Prim.Native.Nat.{ℕ, suc}
 use lib.Dec.{T}
 use lib.ListN.{length, length-map}
+use Rattle.std.specs.Prelude.{None}
+use Rattle.refusal.specs.Refusals.{unless}
 use Rattle.bits.specs.Lists.{Every, written_unless}
 use Rattle.order.specs.Order.{frame_refusal}
 use Rattle.order.proofs.Refusals.{packed_taken, through_taken}
 use Rattle.frame.specs.Layout.{logical_of, frame}
-use Rattle.frame.specs.Packing.{fresh_sync, packed_unless}
+use Rattle.frame.specs.Packing.{fresh_sync}
 use Rattle.records.specs.Records.{valid}
 use Rattle.records.specs.declared.Record.{Record}
 use Rattle.calls.specs.Model.{PackArguments, pack_kind, ReceiveArguments, receive_kind}
@@ -40,7 +42,7 @@ frames_length flips ps =
 -- the call that arguments lead to, from a sync bit, and the list of them
 abbrev pub pack_one : Bool → PackArguments → PackCall pack_kind
 pack_one s x =
-    pack_call x.order x.set s x.lent (packed_unless (arguments_refusal x) s)
+    pack_call x.order x.set s x.lent (unless (arguments_refusal x) (not s))
     (written_unless (arguments_refusal x) 7 (frame x.order x.set s) x.lent)
 
 abbrev pack_all : Bool → List PackArguments → List (PackCall pack_kind)
@@ -58,7 +60,7 @@ every_argument Q (p ∷ ps) h = (h.0, every_argument Q ps h.1)
 
 -- what the channel hands on of packed frames is taken
 delivered_taken : (ord : List ℕ) (flips : ℕ → ℕ → Bool) (ps : List (PackCall pack_kind)) → Every (PacksFrame ord) ps
-    → Every (λ b. frame_refusal ord b ≡ 0) (channel flips (map sent ps))
+    → Every (λ b. frame_refusal ord b ≡ None) (channel flips (map sent ps))
 delivered_taken ord flips [] h = tt
 delivered_taken ord flips (p ∷ ps) h =
     let k = h.0 in (
@@ -81,12 +83,12 @@ module _ (Packs : PackCall pack_kind → Type 0) (packs : (c : PackCall pack_kin
       let ps : List (PackCall pack_kind) = pack_all fresh_sync xs in
       let kept-ps = unrefused pack_call_refusal ps in
       let steps = run_weaker (λ c. c.given) pack_left Packs PackStep packs fresh_sync ps (pack_runs fresh_sync xs) in
-      let kept = run_unrefused (λ c. c.given) pack_left PackStep pack_call_refusal (λ c n k. pack_leaves c k n) fresh_sync ps steps in
+      let kept = run_unrefused (λ c. c.given) pack_left PackStep pack_call_refusal (λ c f k. pack_leaves c k f) fresh_sync ps steps in
       let same : Every (λ c. pack_order c ≡ ord) kept-ps =
       every_argument (λ x. x.order ≡ ord) kept-ps
       (subst⁻¹ (Every (λ x. x.order ≡ ord)) (unrefused_map (λ c. c.arguments) arguments_refusal ps ∙ ap (unrefused arguments_refusal) (pack_arguments fresh_sync xs))
       w.same) in
-      let ordered = run_with (λ c. c.given) pack_left (λ c. PackStep c × (pack_call_refusal c ≡ 0)) (λ c. pack_order c ≡ ord) fresh_sync kept-ps kept same in
+      let ordered = run_with (λ c. c.given) pack_left (λ c. PackStep c × (pack_call_refusal c ≡ None)) (λ c. pack_order c ≡ ord) fresh_sync kept-ps kept same in
       let all = run_every (λ c. c.given) pack_left (PacksFrame ord) (PacksFrame ord) (λ c k. k) fresh_sync kept-ps ordered in
       let frames : List (List ℕ) = channel flips (map sent kept-ps) in
       let count : length frames ≡ length (unrefused arguments_refusal xs) =

@@ -1,14 +1,17 @@
 -- What a single call gives that does what the model does: refused, it leaves its state; not refused, a packing call gives the frame
 -- of a set that may be sent in the order that it was lent, and a receiving call the receiver's answer and record.
 -- Assumes nothing.
-use mathlib.Core.Path.{◌≡◌, refl, sym, ap, ◌∙◌, subst}
+use mathlib.Core.Path.{◌≡◌, refl, sym, ap, ◌∙◌, subst, subst⁻¹}
 use mathlib.Core.Bool.{Bool, true, false, not}
 use mathlib.Core.List.{List, [], ◌∷◌}
-use Prim.Native.Nat.{ℕ, suc}
-use native.Mathlib.Omega.{arith}
+use Prim.Native.Nat.{ℕ}
 use lib.Dec.{T, ltb}
 use lib.ListN.{length}
+use Rattle.std.specs.Prelude.{Option, None, Some, Result, Ok, Err}
+use Rattle.std.proofs.lemmas.Option.{none-some}
 use Rattle.refusal.specs.Refusals.{first_refusal}
+use Rattle.refusal.specs.declared.Refusal.{Refusal}
+use Rattle.refusal.specs.declared.Refusal.TheVariants.{ShortOutput, OutOfRange, InvalidOrder}
 use Rattle.bits.proofs.Tests.{T_true}
 use Rattle.order.specs.Order.{Order, is_order}
 use Rattle.order.proofs.Orders.{is_order_only}
@@ -16,59 +19,54 @@ use Rattle.sets.specs.Sets.{sendable}
 use Rattle.frame.specs.Layout.{frame}
 use Rattle.frame.specs.Packing.{pack_refusal}
 use Rattle.sets.specs.declared.ParameterSet.{ParameterSet}
-use Rattle.frame.specs.declared.PackAnswer.{PackAnswer}
-use Rattle.frame.specs.declared.PackAnswer.TheVariants.{Packed, Refused}
 use Rattle.receiver.specs.Receiving.{receive_unless, receive}
 use Rattle.receiver.specs.declared.FrameResult.{FrameResult}
+use Rattle.receiver.specs.declared.Received.{Received}
+use Rattle.receiver.proofs.Results.{result_in, step_answers}
+use Rattle.receiver.proofs.Refusals.{receive_taken}
 use Rattle.records.specs.declared.Record.{Record}
-use Rattle.receiver.specs.declared.ReceiveAnswer.{ReceiveAnswer}
-use Rattle.receiver.specs.declared.ReceiveAnswer.TheVariants as answer
 use Rattle.calls.specs.Model.{Answer, done, refused, Outcome, PackKind, pack_unless, ReceiveKind, answer_of, outcome_of}
 use Rattle.calls.specs.Calls.{PackCall, pack_order, set_in, pack_call_refusal, pack_left, sent, pack_answer_of, pack_outcome, PackStep}
 use Rattle.calls.specs.Calls.{ReceiveCall, receive_order, frame_in, receive_call_refusal, receive_outcome, ReceiveStep}
 
 -- what packing does not refuse is lent an order and a set that may be sent
-pub packed_only : (ord : List ℕ) (set : ParameterSet) (room : ℕ) → pack_refusal ord set room ≡ 0 → Order ord × T (sendable set)
+pub packed_only : (ord : List ℕ) (set : ParameterSet) (room : ℕ) → pack_refusal ord set room ≡ None → Order ord × T (sendable set)
 packed_only ord set room e = go (ltb room 7) (is_order ord) (sendable set) refl refl e
   where
-    go : (a b c : Bool) → is_order ord ≡ b → sendable set ≡ c → first_refusal ((a, 1) ∷ (not b, 10) ∷ (not c, 5) ∷ []) ≡ 0 → Order ord × T (sendable set)
-    go true b c f g z = absurd (omega arith)
+    go : (a b c : Bool) → is_order ord ≡ b → sendable set ≡ c → first_refusal ((a, ShortOutput) ∷ (not b, InvalidOrder) ∷ (not c, OutOfRange) ∷ []) ≡ None → Order ord × T (sendable set)
+    go true b c f g z = absurd (none-some _ (sym z))
     go false true true f g z = (is_order_only ord (T_true (is_order ord) f), subst T (sym g) tt)
-    go false true false f g z = absurd (omega arith)
-    go false false c f g z = absurd (omega arith)
+    go false true false f g z = absurd (none-some _ (sym z))
+    go false false c f g z = absurd (none-some _ (sym z))
 
 -- the value in an answer, and a given one where there is none
 value_or : {A : Type 0} → A → Answer A → A
 value_or d (done x) = x
 value_or d (refused n) = d
 
-bytes_back : (a : PackAnswer) (bytes : List ℕ) → value_or bytes (pack_answer_of a bytes) ≡ bytes
+bytes_back : (a : Result Bool Refusal) (bytes : List ℕ) → value_or bytes (pack_answer_of a bytes) ≡ bytes
 unfolding value_or
-bytes_back (Packed next) bytes = refl
-bytes_back (Refused n) bytes = refl
+bytes_back (Ok next) bytes = refl
+bytes_back (Err f) bytes = refl
 
--- an answer of the model as the call's own
-back : Answer FrameResult → ReceiveAnswer
-back (done x) = answer.Result x
-back (refused n) = answer.Refused n
-
-answer_back : (a : ReceiveAnswer) → back (answer_of a) ≡ a
-unfolding back
-answer_back (answer.Result x) = refl
-answer_back (answer.Refused n) = refl
+-- a call that the model gives a result of has this result
+answer_back : (a : Result FrameResult Refusal) (x : FrameResult) → answer_of a ≡ done x → a ≡ Ok x
+unfolding value_or
+answer_back (Ok y) x e = ap (λ (b : Answer FrameResult). Ok (value_or y b)) e
+answer_back (Err f) x e = absurd (refused≢done e)
 
 module _ {P : PackKind} (c : PackCall P) (k : PackStep c) where
   -- a packing call by the number that refuses it
-  pack_outcome_is : (n : ℕ) → pack_call_refusal c ≡ n → pack_outcome c ≡ pack_unless n (pack_order c) c.given (set_in c)
+  pack_outcome_is : (n : Option Refusal) → pack_call_refusal c ≡ n → pack_outcome c ≡ pack_unless n (pack_order c) c.given (set_in c)
   pack_outcome_is n e =
       let by_kind : pack_outcome c ≡ pack_unless (pack_call_refusal c) (pack_order c) c.given (set_in c) = k.outcome in
-      by_kind ∙ ap (λ (m : ℕ). pack_unless m (pack_order c) c.given (set_in c)) e
+      by_kind ∙ ap (λ (m : Option Refusal). pack_unless m (pack_order c) c.given (set_in c)) e
 
   -- a refused one leaves the sync bit
-  pub pack_leaves : (n : ℕ) → pack_call_refusal c ≡ suc n → pack_left c ≡ c.given
-  pack_leaves n e = ap (λ (y : Outcome (List ℕ) Bool). y.state) (pack_outcome_is (suc n) e)
+  pub pack_leaves : (f : Refusal) → pack_call_refusal c ≡ Some f → pack_left c ≡ c.given
+  pack_leaves f e = ap (λ (y : Outcome (List ℕ) Bool). y.state) (pack_outcome_is (Some f) e)
 
-  module _ (e : pack_call_refusal c ≡ 0) where
+  module _ (e : pack_call_refusal c ≡ None) where
     -- one that is not refused has an order and a set that may be sent
     pack_only : Order (pack_order c) × T (sendable (set_in c))
     pack_only = packed_only (pack_order c) (set_in c) (length (P.lent c.arguments)) (P.covers c.given c.arguments e)
@@ -82,32 +80,34 @@ module _ {P : PackKind} (c : PackCall P) (k : PackStep c) where
     -- and its seven bytes are the frame of the set with the sync bit it was given
     pub pack_sent : sent c ≡ frame (pack_order c) (set_in c) c.given
     unfolding value_or
-    pack_sent = sym (bytes_back c.answer (sent c)) ∙ ap (λ (y : Outcome (List ℕ) Bool). value_or (sent c) y.answer) (pack_outcome_is 0 e)
+    pack_sent = sym (bytes_back c.answer (sent c)) ∙ ap (λ (y : Outcome (List ℕ) Bool). value_or (sent c) y.answer) (pack_outcome_is None e)
 
 module _ {R : ReceiveKind} (c : ReceiveCall R) (k : ReceiveStep c) where
   -- a receiving call by the number that refuses it
-  receive_outcome_is : (n : ℕ) → receive_call_refusal c ≡ n → receive_outcome c ≡ outcome_of (receive_unless n (receive_order c) c.given (frame_in c))
+  receive_outcome_is : (n : Option Refusal) → receive_call_refusal c ≡ n → receive_outcome c ≡ outcome_of (receive_unless n (receive_order c) c.given (frame_in c))
   receive_outcome_is n e =
       let by_kind : receive_outcome c ≡ outcome_of (receive_unless (receive_call_refusal c) (receive_order c) c.given (frame_in c)) = k in
-      by_kind ∙ ap (λ (m : ℕ). outcome_of (receive_unless m (receive_order c) c.given (frame_in c))) e
+      by_kind ∙ ap (λ (m : Option Refusal). outcome_of (receive_unless m (receive_order c) c.given (frame_in c))) e
 
   -- a refused one leaves the record
-  pub receive_leaves : (n : ℕ) → receive_call_refusal c ≡ suc n → c.left ≡ c.given
-  receive_leaves n e = ap (λ (y : Outcome FrameResult Record). y.state) (receive_outcome_is (suc n) e)
+  pub receive_leaves : (f : Refusal) → receive_call_refusal c ≡ Some f → c.left ≡ c.given
+  receive_leaves f e = ap (λ (y : Outcome FrameResult Record). y.state) (receive_outcome_is (Some f) e)
 
-  module _ (e : receive_call_refusal c ≡ 0) where
+  module _ (e : receive_call_refusal c ≡ None) where
     -- one that is not refused gives what the receiver gives
     receives : receive_outcome c ≡ outcome_of (receive (receive_order c) c.given (frame_in c))
     unfolding receive
     receives =
-        receive_outcome_is 0 e ∙ sym (ap (λ (m : ℕ). outcome_of (receive_unless m (receive_order c) c.given (frame_in c))) (R.covers c.given c.arguments e))
+        receive_outcome_is None e ∙ sym (ap (λ (m : Option Refusal). outcome_of (receive_unless m (receive_order c) c.given (frame_in c))) (R.covers c.given c.arguments e))
 
     -- its answer
     pub receive_answer : c.answer ≡ (receive (receive_order c) c.given (frame_in c)).answer
     receive_answer =
-        sym (answer_back c.answer)
-        ∙ ap (λ (y : Outcome FrameResult Record). back y.answer) receives
-        ∙ answer_back (receive (receive_order c) c.given (frame_in c)).answer
+        let there = receive (receive_order c) c.given (frame_in c) in
+        let taken = receive_taken (receive_order c) c.given (frame_in c) (R.covers c.given c.arguments e) in
+        let result : there.answer ≡ Ok (result_in there.answer) =
+        subst⁻¹ (λ (y : Received). y.answer ≡ Ok (result_in y.answer)) taken (step_answers c.given _ _) in
+        answer_back c.answer (result_in there.answer) (ap (λ (y : Outcome FrameResult Record). y.answer) receives ∙ ap answer_of result) ∙ sym result
 
     -- and its record
     pub receive_left : c.left ≡ (receive (receive_order c) c.given (frame_in c)).next

@@ -2,13 +2,15 @@
 -- Assumes nothing.
 use mathlib.Core.Path.{◌≡◌, refl, ap, ◌∙◌, subst⁻¹}
 use mathlib.Core.List.{List, [], ◌∷◌, map}
+use Rattle.std.specs.Prelude.{Result}
+use Rattle.refusal.specs.declared.Refusal.{Refusal}
 use Rattle.records.specs.OldRecords.{with_count, taken_over}
 use Rattle.records.specs.declared.OldRecord.{OldRecord}
 use Rattle.records.specs.declared.Record.{Record}
 use Rattle.receiver.specs.Receiving.{receive}
 use Rattle.receiver.specs.SoftReceiving.{soft_receive}
 use Rattle.receiver.specs.TakenOver.{in_step}
-use Rattle.receiver.specs.declared.ReceiveAnswer.{ReceiveAnswer}
+use Rattle.receiver.specs.declared.FrameResult.{FrameResult}
 use Rattle.receiver.specs.declared.Received.{Received}
 use Rattle.receiver.proofs.TakenOver.{taken_over_lem}
 use Rattle.calls.specs.Model.{answer_of, outcomes}
@@ -24,7 +26,7 @@ new_call r (plain order bytes) = receive order r bytes
 new_call r (soft order bytes confidences) = soft_receive order r bytes confidences
 
 -- a call of the code gives that, in each way
-owed : (way : Way) (x : Passed) (given : Record) (answer : ReceiveAnswer) (left : Record) → CodeReceivesAs way x given answer left
+owed : (way : Way) (x : Passed) (given : Record) (answer : Result FrameResult Refusal) (left : Record) → CodeReceivesAs way x given answer left
     → (answer ≡ (new_call given x).answer) × (left ≡ (new_call given x).next)
 owed way (plain order bytes) given answer left k = receive_owes way (receive_call order given bytes answer left) k
 owed way (soft order bytes confidences) given answer left k = soft_owes way _ k
@@ -54,4 +56,4 @@ pub always_in_step : AlwaysInStep
 always_in_step t cs k h =
     let made : t.gave ≡ taken_over t.old = subst⁻¹ (λ (x : TakingCall). x.gave ≡ taken_over x.old) k.observed k.contract in
     let next : t.gave.next ≡ with_count t.old = λ i. (made i).next in
-    record { refusal = λ i. (made i).refusal; next = next; received = list_kept t.old t.gave.next cs next h }
+    record { refusal = λ i. (made i).answer; next = next; received = list_kept t.old t.gave.next cs next h }

@@ -1,9 +1,9 @@
 -- Receiving calls of the code without confidences and with them, mixed at will, as they are observed. Each is some call of a function of which its contract
 -- holds, as in `CodeCalls` and `SoftCalls`.
-use Rattle.std.specs.Prelude.{ℕ, List}
+use Rattle.std.specs.Prelude.{ℕ, List, Result}
+use Rattle.refusal.specs.declared.Refusal.{Refusal}
 use Rattle.records.specs.declared.Record.{Record}
 use Rattle.receiver.specs.declared.FrameResult.{FrameResult}
-use Rattle.receiver.specs.declared.ReceiveAnswer.{ReceiveAnswer}
 use Rattle.calls.specs.Model.{Outcome, answer_of}
 use Rattle.calls.specs.Calls.{Run}
 use Rattle.calls.specs.CodeCalls.{receive_call, Way, CodeReceivesBy}
@@ -18,7 +18,7 @@ pub data Passed : Type 0 where
 pub record AnyCall : Type 0 where
   pub passed : Passed
   pub given : Record
-  pub answer : ReceiveAnswer
+  pub answer : Result FrameResult Refusal
   pub left : Record
 
 -- what is compared of it: every part of the result or the number, and the record after it
@@ -26,7 +26,7 @@ abbrev pub any_outcome : AnyCall → Outcome FrameResult Record
 any_outcome c = record { answer = answer_of c.answer; state = c.left }
 
 -- one of the code's four, made in one of two ways
-abbrev pub CodeReceivesAs : Way → Passed → Record → ReceiveAnswer → Record → Type 0
+abbrev pub CodeReceivesAs : Way → Passed → Record → Result FrameResult Refusal → Record → Type 0
 CodeReceivesAs way (plain order bytes) given answer left = CodeReceivesBy way (receive_call order given bytes answer left)
 CodeReceivesAs way (soft order bytes confidences) given answer left =
     CodeReceivesSoft way (record { order = order; frame = bytes; confidences = confidences; given = given; answer = answer; left = left })

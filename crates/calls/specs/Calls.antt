@@ -1,35 +1,34 @@
 -- Document 01, "Lists of calls": calls as they are observed, lists of them on one sender and on one receiver, and the channel between.
-use Rattle.std.specs.Prelude.{ℕ, zero, suc, ◌≡◌, Bool, List, [], ◌∷◌, ◌++◌, take, drop}
+use Rattle.std.specs.Prelude.{ℕ, suc, ◌≡◌, Bool, List, [], ◌∷◌, ◌++◌, take, drop, Option, None, Some, Result, Ok, Err}
+use Rattle.refusal.specs.Refusals.{number_of}
+use Rattle.refusal.specs.declared.Refusal.{Refusal}
 use Rattle.order.specs.Order.{through}
 use Rattle.sets.specs.declared.ParameterSet.{ParameterSet}
-use Rattle.frame.specs.declared.PackAnswer.{PackAnswer}
-use Rattle.frame.specs.declared.PackAnswer.TheVariants as pack
 use Rattle.receiver.specs.declared.FrameResult.{FrameResult}
 use Rattle.records.specs.declared.Record.{Record}
-use Rattle.receiver.specs.declared.ReceiveAnswer.{ReceiveAnswer}
 use Rattle.calls.specs.Model.{Answer, done, refused, Outcome, PackKind, pack_model, ReceiveKind, answer_of, receive_model}
 
 -- a packing call of a kind: its arguments, the sync bit it was given, its answer, and the lent output afterwards
 pub record PackCall (P : PackKind) : Type 0 where
   pub arguments : P.Arguments
   pub given : Bool
-  pub answer : PackAnswer
+  pub answer : Result Bool Refusal
   pub output : List ℕ
 
--- the order that it is lent, the set that it is to pack, and the number that refuses it, 0 is none
+-- the order that it is lent, the set that it is to pack, and what refuses it
 abbrev pub pack_order : {P : PackKind} → PackCall P → List ℕ
 pack_order {P} c = P.order c.arguments
 
 abbrev pub set_in : {P : PackKind} → PackCall P → ParameterSet
 set_in {P} c = P.set c.arguments
 
-abbrev pub pack_call_refusal : {P : PackKind} → PackCall P → ℕ
+abbrev pub pack_call_refusal : {P : PackKind} → PackCall P → Option Refusal
 pack_call_refusal {P} c = P.refusal c.given c.arguments
 
 -- the sync bit after it: the one it returned, or after a refusal the one it was given, which its holder keeps
-abbrev pub sync_after : Bool → PackAnswer → Bool
-sync_after given (pack.Packed next) = next
-sync_after given (pack.Refused n) = given
+abbrev pub sync_after : Bool → Result Bool Refusal → Bool
+sync_after given (Ok next) = next
+sync_after given (Err f) = given
 
 abbrev pub pack_left : {P : PackKind} → PackCall P → Bool
 pack_left c = sync_after c.given c.answer
@@ -39,9 +38,9 @@ abbrev pub sent : {P : PackKind} → PackCall P → List ℕ
 sent c = take 7 c.output
 
 -- what is compared of it: the seven bytes or the number, and the sync bit after it
-abbrev pub pack_answer_of : PackAnswer → List ℕ → Answer (List ℕ)
-pack_answer_of (pack.Packed next) bytes = done bytes
-pack_answer_of (pack.Refused n) bytes = refused n
+abbrev pub pack_answer_of : Result Bool Refusal → List ℕ → Answer (List ℕ)
+pack_answer_of (Ok next) bytes = done bytes
+pack_answer_of (Err f) bytes = refused (number_of f)
 
 abbrev pub pack_outcome : {P : PackKind} → PackCall P → Outcome (List ℕ) Bool
 pack_outcome c = record { answer = pack_answer_of c.answer (sent c); state = pack_left c }
@@ -50,17 +49,17 @@ pack_outcome c = record { answer = pack_answer_of c.answer (sent c); state = pac
 pub record ReceiveCall (R : ReceiveKind) : Type 0 where
   pub arguments : R.Arguments
   pub given : Record
-  pub answer : ReceiveAnswer
+  pub answer : Result FrameResult Refusal
   pub left : Record
 
--- the order that it is lent, the frame that it gets, and the number that refuses it, 0 is none
+-- the order that it is lent, the frame that it gets, and what refuses it
 abbrev pub receive_order : {R : ReceiveKind} → ReceiveCall R → List ℕ
 receive_order {R} c = R.order c.arguments
 
 abbrev pub frame_in : {R : ReceiveKind} → ReceiveCall R → List ℕ
 frame_in {R} c = R.frame c.arguments
 
-abbrev pub receive_call_refusal : {R : ReceiveKind} → ReceiveCall R → ℕ
+abbrev pub receive_call_refusal : {R : ReceiveKind} → ReceiveCall R → Option Refusal
 receive_call_refusal {R} c = R.refusal c.given c.arguments
 
 -- what is compared of it: every part of the result or the number, and the record after it
@@ -94,11 +93,11 @@ abbrev pub ReceiveRun : {R : ReceiveKind} → (ReceiveCall R → Type 0) → Rec
 ReceiveRun Keeps = Run (λ c. c.given) (λ c. c.left) Keeps
 
 -- the calls that are not refused
-abbrev pub keep_unless : {C : Type 0} → ℕ → C → List C → List C
-keep_unless zero c cs = c ∷ cs
-keep_unless (suc n) c cs = cs
+abbrev pub keep_unless : {C : Type 0} → Option Refusal → C → List C → List C
+keep_unless None c cs = c ∷ cs
+keep_unless (Some f) c cs = cs
 
-abbrev pub unrefused : {C : Type 0} → (C → ℕ) → List C → List C
+abbrev pub unrefused : {C : Type 0} → (C → Option Refusal) → List C → List C
 unrefused refusal [] = []
 unrefused refusal (c ∷ cs) = keep_unless (refusal c) c (unrefused refusal cs)
 

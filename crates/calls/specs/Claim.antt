@@ -9,14 +9,13 @@
 --
 -- Claimed: all that is observed of every call is what the reference model gives, which is fed arguments alone; and of every frame
 -- packed, whatever its flips and whatever went before it, what `RowClaim` and `PairClaim` say, in that order and for bursts of its width.
-use Rattle.std.specs.Prelude.{ℕ, ◌≡◌, Bool, List, map, length}
+use Rattle.std.specs.Prelude.{ℕ, ◌≡◌, Bool, List, map, length, Ok}
 use Rattle.bits.specs.Bits.{cut}
 use Rattle.bits.specs.Lists.{Every, Successive}
 use Rattle.frame.specs.Packing.{fresh_sync}
 use Rattle.bursts.specs.Width.{burst_width}
 use Rattle.records.specs.Records.{fresh}
 use Rattle.records.specs.declared.Record.{Record}
-use Rattle.receiver.specs.declared.ReceiveAnswer.TheVariants.{Result}
 use Rattle.calls.specs.Model.{done, outcomes, PackKind, pack_model, ReceiveKind, receive_model, receive_kind}
 use Rattle.calls.specs.Calls.{PackCall, pack_order, pack_call_refusal, sent, pack_outcome, lent_after}
 use Rattle.calls.specs.Calls.{ReceiveCall, receive_order, frame_in, receive_call_refusal, receive_outcome}
@@ -46,7 +45,7 @@ module _ {P : PackKind} {R : ReceiveKind} where
     pub packings : map (λ w. w.packing) rows ≡ unrefused pack_call_refusal ps
     pub receivings : map (λ w. w.receiving) rows ≡ unrefused receive_call_refusal rs
     pub flipped : map (λ w. w.flips) rows ≡ cut flips 0 (length rows)
-    pub answered : map (λ w. w.receiving.answer) rows ≡ map (λ w. Result w.result) rows
+    pub answered : map (λ w. w.receiving.answer) rows ≡ map (λ w. Ok w.result) rows
     pub clean : map (λ o. o.answer) (outcomes (receive_model receive_kind) fresh (map (λ w. record { order = ord; frame = sent w.packing }) rows)) ≡ map (λ w. done w.clean) rows
     -- what is claimed of each frame, and of each with the one before it
     pub frames : Every (RowClaim ord (burst_width ord)) rows

@@ -1,6 +1,6 @@
 -- Calls of the code, as they are observed: each is some call of a function of which its contract holds, by the checker's own reading
 -- of its `ensures`; of a call in place, the equation that each of its clauses is (`ReceivingCalls.in_place_says`).
-use Rattle.std.specs.Prelude.{ℕ, ◌≡◌, Bool, List}
+use Rattle.std.specs.Prelude.{ℕ, ◌≡◌, Bool, List, Result}
 use seplogic.Ra.Ura.{Ura}
 use prog.Memory.{Memory}
 use prog.Routine.{Routine}
@@ -11,13 +11,13 @@ use contract.Notation.{connectives}
 use contract.Lifetimes.{Lfts}
 use borrow.Fn.World.{ArgsD, ResD}
 use denote.Triple.Clauses.{AtExit}
+use Rattle.refusal.specs.declared.Refusal.{Refusal}
 use Rattle.sets.specs.declared.ParameterSet.{ParameterSet}
-use Rattle.frame.specs.declared.PackAnswer.{PackAnswer}
 use Rattle.frame.specs.contracts.pack as pack
 use Rattle.frame.proofs.pack.Reads as pack-reads
 use Rattle.records.specs.declared.Record.{Record}
 use Rattle.receiver.specs.Receiving.{receive}
-use Rattle.receiver.specs.declared.ReceiveAnswer.{ReceiveAnswer}
+use Rattle.receiver.specs.declared.FrameResult.{FrameResult}
 use Rattle.receiver.specs.contracts.receive as value
 use Rattle.receiver.proofs.receive.Reads as value-reads
 use Rattle.receiver.specs.contracts.receive_in_place as place
@@ -25,7 +25,7 @@ use Rattle.calls.specs.Model.{pack_kind, receive_kind}
 use Rattle.calls.specs.Calls.{PackCall, ReceiveCall, receive_order, frame_in}
 
 -- a packing call by what it was passed, gave and left
-abbrev pub pack_call : List ℕ → ParameterSet → Bool → List ℕ → PackAnswer → List ℕ → PackCall pack_kind
+abbrev pub pack_call : List ℕ → ParameterSet → Bool → List ℕ → Result Bool Refusal → List ℕ → PackCall pack_kind
 pack_call order set sync lent answer output = record {
   arguments = record { order = order; set = set; lent = lent };
   given = sync;
@@ -43,7 +43,7 @@ pub record CodePacks (c : PackCall pack_kind) : Type 0 where
   pub observed : c ≡ pack_call passed.1.1.0.now passed.0 passed.1.0 passed.1.1.1.0.now gave left.1.1.1.0.now
 
 -- a receiving call by what it was passed, gave and left
-abbrev pub receive_call : List ℕ → Record → List ℕ → ReceiveAnswer → Record → ReceiveCall receive_kind
+abbrev pub receive_call : List ℕ → Record → List ℕ → Result FrameResult Refusal → Record → ReceiveCall receive_kind
 receive_call order given bytes answer left = record { arguments = record { order = order; frame = bytes }; given = given; answer = answer; left = left }
 
 -- one of `receiver::receive`
@@ -56,7 +56,7 @@ pub record CodeByValue (c : ReceiveCall receive_kind) : Type 0 where
   pub observed : c ≡ receive_call passed.1.1.0.now passed.0 passed.1.0.now gave.answer gave.next
 
 -- what a call in place owes: the answer, and the record in the caller's memory afterwards
-abbrev pub Answered : List ℕ → Record → List ℕ → ReceiveAnswer → Type 0
+abbrev pub Answered : List ℕ → Record → List ℕ → Result FrameResult Refusal → Type 0
 Answered order given bytes answer = answer ≡ (receive order given bytes).answer
 
 abbrev pub Leaves : List ℕ → Record → List ℕ → Record → Type 0

@@ -1,6 +1,6 @@
 -- Demands 2 and 3 for the calls of the code: every packing call is one of `frame::pack`, every receiving call one of `receiver::receive`
 -- or `receiver::receive_in_place`, mixed at will, none with confidences; of each only its contract is known. Proved in the law file of this name.
-use Rattle.std.specs.Prelude.{ℕ, ◌≤◌, ◌≡◌, Bool, List, T, length}
+use Rattle.std.specs.Prelude.{ℕ, ◌≤◌, ◌≡◌, Bool, List, T, length, None}
 use Rattle.order.specs.Order.{Order}
 use Rattle.sets.specs.Sets.{sendable}
 use Rattle.sets.specs.declared.ParameterSet.{ParameterSet}
@@ -32,4 +32,4 @@ SessionsHad = (ord : List ℕ) (xs : List PackArguments) (flips : ℕ → ℕ �
 -- a packing call that is lent an order, at least seven bytes and a set that a sender takes is not refused: so in every order there are arguments that pack
 abbrev pub OrdersPack : Type 0
 OrdersPack = (ord : List ℕ) → Order ord → (set : ParameterSet) → T (sendable set) → (lent : List ℕ) → 7 ≤ length lent
-    → arguments_refusal (record { order = ord; set = set; lent = lent }) ≡ 0
+    → arguments_refusal (record { order = ord; set = set; lent = lent }) ≡ None

@@ -1,14 +1,14 @@
 -- Document 01, "Lists of calls": the reference model, document 01's reckoning. It is fed the calls' arguments alone and keeps a state of its own.
 -- It takes the kind of call: another kind may be passed more, and have refusals of its own.
-use Rattle.std.specs.Prelude.{ℕ, zero, suc, ◌≡◌, Bool, not, List, [], ◌∷◌, length}
+use Rattle.std.specs.Prelude.{ℕ, ◌≡◌, Bool, not, List, [], ◌∷◌, length, Option, None, Some, Result, Ok, Err}
+use Rattle.refusal.specs.Refusals.{number_of}
+use Rattle.refusal.specs.declared.Refusal.{Refusal}
 use Rattle.frame.specs.Layout.{frame}
 use Rattle.frame.specs.Packing.{pack_refusal}
 use Rattle.sets.specs.declared.ParameterSet.{ParameterSet}
 use Rattle.receiver.specs.Receiving.{receive_refusal, receive_unless}
 use Rattle.receiver.specs.declared.FrameResult.{FrameResult}
 use Rattle.records.specs.declared.Record.{Record}
-use Rattle.receiver.specs.declared.ReceiveAnswer.{ReceiveAnswer}
-use Rattle.receiver.specs.declared.ReceiveAnswer.TheVariants.{Result, Refused}
 use Rattle.receiver.specs.declared.Received.{Received}
 
 -- what a call answers: a value, or the number of its refusal
@@ -26,40 +26,39 @@ abbrev pub outcomes : {X A S : Type 0} → (S → X → Outcome A S) → S → L
 outcomes model s [] = []
 outcomes model s (x ∷ xs) = model s x ∷ outcomes model (model s x).state xs
 
--- a kind of packing call: what it is passed besides the sync bit, the order of the bits, the set and the lent output therein, and the number that
--- refuses it, 0 is none
+-- a kind of packing call: what it is passed besides the sync bit, the order of the bits, the set and the lent output therein, and what refuses it
 pub record PackKind : Type 1 where
   pub Arguments : Type 0
   pub order : Arguments → List ℕ
   pub set : Arguments → ParameterSet
   pub lent : Arguments → List ℕ
-  pub refusal : Bool → Arguments → ℕ
+  pub refusal : Bool → Arguments → Option Refusal
   -- what the table refuses of an order, a set and an output, it refuses too
-  pub covers : (sync : Bool) (x : Arguments) → refusal sync x ≡ 0 → pack_refusal (order x) (set x) (length (lent x)) ≡ 0
+  pub covers : (sync : Bool) (x : Arguments) → refusal sync x ≡ None → pack_refusal (order x) (set x) (length (lent x)) ≡ None
 
 -- packing: a call that is refused gives its number and the sync bit stays; any other gives the frame of the set with this sync bit, in its own order, and
 -- the sync bit changes
-abbrev pub pack_unless : ℕ → List ℕ → Bool → ParameterSet → Outcome (List ℕ) Bool
-pack_unless zero ord sync set = record { answer = done (frame ord set sync); state = not sync }
-pack_unless (suc n) ord sync set = record { answer = refused (suc n); state = sync }
+abbrev pub pack_unless : Option Refusal → List ℕ → Bool → ParameterSet → Outcome (List ℕ) Bool
+pack_unless None ord sync set = record { answer = done (frame ord set sync); state = not sync }
+pack_unless (Some f) ord sync set = record { answer = refused (number_of f); state = sync }
 
 abbrev pub pack_model : (P : PackKind) → Bool → P.Arguments → Outcome (List ℕ) Bool
 pack_model P sync x = pack_unless (P.refusal sync x) (P.order x) sync (P.set x)
 
--- a kind of receiving call: what it is passed besides the record, the order and the frame therein, and the number that refuses it, 0 is none
+-- a kind of receiving call: what it is passed besides the record, the order and the frame therein, and what refuses it
 pub record ReceiveKind : Type 1 where
   pub Arguments : Type 0
   pub order : Arguments → List ℕ
   pub frame : Arguments → List ℕ
-  pub refusal : Record → Arguments → ℕ
+  pub refusal : Record → Arguments → Option Refusal
   -- what the table refuses of an order, a frame and a record, it refuses too
-  pub covers : (r : Record) (x : Arguments) → refusal r x ≡ 0 → receive_refusal (order x) r (frame x) ≡ 0
+  pub covers : (r : Record) (x : Arguments) → refusal r x ≡ None → receive_refusal (order x) r (frame x) ≡ None
 
 -- receiving: a call that is refused gives its number and the record stays; any other gives the result and the next record that the
 -- definition of the receiver has for the bits received, in the call's own order, and this record
-abbrev pub answer_of : ReceiveAnswer → Answer FrameResult
-answer_of (Result x) = done x
-answer_of (Refused n) = refused n
+abbrev pub answer_of : Result FrameResult Refusal → Answer FrameResult
+answer_of (Ok x) = done x
+answer_of (Err f) = refused (number_of f)
 
 abbrev pub outcome_of : Received → Outcome FrameResult Record
 outcome_of y = record { answer = answer_of y.answer; state = y.next }

@@ -1,6 +1,7 @@
 -- What demand 3 is given can be had, so that it is no empty claim: in every order any arguments of packing calls, any flips, any valid record, and any
 -- receiving calls that are asked for, made in any of some ways, with refused ones in any order anywhere among the others.
-use Rattle.std.specs.Prelude.{ℕ, zero, suc, ◌≡◌, Bool, List, [], ◌∷◌, map, length}
+use Rattle.std.specs.Prelude.{ℕ, zero, suc, ◌≡◌, Bool, List, [], ◌∷◌, map, length, Option, None}
+use Rattle.refusal.specs.declared.Refusal.{Refusal}
 use Rattle.bits.specs.Lists.{Every}
 use Rattle.order.specs.Order.{frame_refusal}
 use Rattle.frame.specs.Packing.{pack_refusal}
@@ -16,7 +17,7 @@ pub data Wish (Way : Type 0) : Type 0 where
   other : Way → ReceiveArguments → Wish Way
 
 -- the refusal of packing by the arguments alone
-abbrev pub arguments_refusal : PackArguments → ℕ
+abbrev pub arguments_refusal : PackArguments → Option Refusal
 arguments_refusal x = pack_refusal x.order x.set (length x.lent)
 
 module _ {Way : Type 0} where
@@ -28,7 +29,7 @@ module _ {Way : Type 0} where
 
   abbrev pub OtherRefused : Wish Way → Type 0
   OtherRefused (next way) = Unit
-  OtherRefused (other way x) = ¬ (frame_refusal x.order x.frame ≡ 0)
+  OtherRefused (other way x) = ¬ (frame_refusal x.order x.frame ≡ None)
 
   -- a script for packing calls with these arguments, of which those not refused have one order: it takes as many frames as are packed, and every other
   -- order or frame is one that the table refuses
@@ -42,7 +43,7 @@ module _ {Way : Type 0} where
   Granted Receives [] [] = Unit
   Granted Receives [] (c ∷ cs) = ⊥
   Granted Receives (wish ∷ script) [] = ⊥
-  Granted Receives (next way ∷ script) (c ∷ cs) = Receives way c × (receive_call_refusal c ≡ 0) × Granted Receives script cs
+  Granted Receives (next way ∷ script) (c ∷ cs) = Receives way c × (receive_call_refusal c ≡ None) × Granted Receives script cs
   Granted Receives (other way x ∷ script) (c ∷ cs) = Receives way c × (c.arguments ≡ x) × Granted Receives script cs
 
   -- there are such lists of calls: packing calls with these arguments, and receiving calls by the script, which take every frame packed

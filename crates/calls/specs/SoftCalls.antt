@@ -1,6 +1,6 @@
 -- Document 02, T-05: receiving calls with confidences as they are observed, and what is claimed of those of the code. Each is some call of a function of
 -- which its contract holds, as in `CodeCalls`. Demand 3's lists are about calls without confidences and have none of these.
-use Rattle.std.specs.Prelude.{ℕ, ◌<◌, ◌≡◌, List, T, length}
+use Rattle.std.specs.Prelude.{ℕ, ◌<◌, ◌≡◌, List, T, length, Result, None}
 use seplogic.Ra.Ura.{Ura}
 use prog.Memory.{Memory}
 use prog.Routine.{Routine}
@@ -11,11 +11,12 @@ use contract.Notation.{connectives}
 use contract.Lifetimes.{Lfts}
 use borrow.Fn.World.{ArgsD, ResD}
 use denote.Triple.Clauses.{AtExit}
+use Rattle.refusal.specs.declared.Refusal.{Refusal}
 use Rattle.bits.specs.Lists.{Every}
 use Rattle.records.specs.Records.{valid}
 use Rattle.records.specs.declared.Record.{Record}
 use Rattle.receiver.specs.SoftReceiving.{soft_receive}
-use Rattle.receiver.specs.declared.ReceiveAnswer.{ReceiveAnswer}
+use Rattle.receiver.specs.declared.FrameResult.{FrameResult}
 use Rattle.receiver.specs.contracts.receive_soft as value
 use Rattle.receiver.proofs.receive_soft.Reads as value-reads
 use Rattle.receiver.specs.contracts.receive_soft_in_place as place
@@ -31,7 +32,7 @@ pub record SoftCall : Type 0 where
   pub frame : List ℕ
   pub confidences : List ℕ
   pub given : Record
-  pub answer : ReceiveAnswer
+  pub answer : Result FrameResult Refusal
   pub left : Record
 
 -- what is observed of it but for the confidences
@@ -55,7 +56,7 @@ pub record SoftByValue (d : SoftCall) : Type 0 where
   }
 
 -- what a call in place owes: the answer, and the record in the caller's memory afterwards
-abbrev pub SoftAnswered : List ℕ → Record → List ℕ → List ℕ → ReceiveAnswer → Type 0
+abbrev pub SoftAnswered : List ℕ → Record → List ℕ → List ℕ → Result FrameResult Refusal → Type 0
 SoftAnswered order given bytes confidences answer = answer ≡ (soft_receive order given bytes confidences).answer
 
 abbrev pub SoftLeaves : List ℕ → Record → List ℕ → List ℕ → Record → Type 0
@@ -83,7 +84,7 @@ SoftInPlaceSays = (M : Type 1) (𝓤 : Ura M) (𝓛 : Logic 𝓤) (κs : Lfts 4)
 -- what is claimed: the undamaged frame of any set that a sender takes comes back as itself in the order that it was packed in, with any 54 confidences
 -- above 0 and from any valid record
 abbrev pub SoftReturn : Type 0
-SoftReturn = (c : PackCall pack_kind) (way : Way) (d : SoftCall) → CodePacks c → CodeReceivesSoft way d → pack_call_refusal c ≡ 0 → T (valid d.given)
+SoftReturn = (c : PackCall pack_kind) (way : Way) (d : SoftCall) → CodePacks c → CodeReceivesSoft way d → pack_call_refusal c ≡ None → T (valid d.given)
     → d.order ≡ pack_order c → d.frame ≡ sent c → length d.confidences ≡ 54 → Every (λ x. 0 < x) d.confidences → Returns c (plainly d)
 
 -- and that such calls can be had: in each way, for every order, record, frame and confidences
