@@ -23,18 +23,18 @@ use Rattle.calls.specs.CodeCalls.{pack_call, CodePacks}
 abbrev pub slice : List ℕ → Bor (List ℕ)
 slice l = record { ref_ptr = (0, 0); now = l }
 
--- a list lent to be written
-abbrev pub slice_mut : List ℕ → MutBor (List ℕ)
-slice_mut l = record { ref_ptr = (0, 0); ghost_name = 0; now = l }
+-- a value lent to be written
+abbrev pub lent_to_write : {A : Type 0} → A → MutBor A
+lent_to_write x = record { ref_ptr = (0, 0); ghost_name = 0; now = x }
 
 -- there is such a call for all arguments
 pub pack_had : (sync : Bool) (x : PackArguments)
     → CodePacks (pack_call x.order x.set sync x.lent (pack_answer x.order x.set sync (length x.lent)) (pack_writes x.order x.set sync x.lent))
 pack_had sync x = record {
   κs = ([], ([], tt));
-  passed = (x.set, (sync, (slice x.order, (slice_mut x.lent, tt))));
+  passed = (x.set, (sync, (slice x.order, (lent_to_write x.lent, tt))));
   gave = pack_answer x.order x.set sync (length x.lent);
-  left = (x.set, (sync, (slice x.order, (slice_mut (pack_writes x.order x.set sync x.lent), tt))));
+  left = (x.set, (sync, (slice x.order, (lent_to_write (pack_writes x.order x.set sync x.lent), tt))));
   contract = (refl, refl);
   observed = refl;
 }

@@ -1,14 +1,14 @@
--- Receiving calls of the code, by value and in place: what the toolchain reads in the contract of `receiver::receive`, and what the
--- clauses of `receiver::receive_in_place` say, is the model's step.
+-- Receiving calls of the code, by value and in place: what the toolchain reads in the contracts of `receiver::receive` and
+-- `receiver::receive_in_place` is the model's step.
 -- Assumes nothing.
-use mathlib.Core.Path.{refl, subst⁻¹}
+use mathlib.Core.Path.{◌≡◌, refl, subst⁻¹}
 use mathlib.Core.List.{[]}
 use Rattle.receiver.specs.Receiving.{receive}
 use Rattle.records.specs.declared.Record.{Record}
 use Rattle.calls.specs.Model.{answer_of, ReceiveArguments, receive_kind}
-use Rattle.calls.specs.Calls.{ReceiveCall, ReceiveStep}
-use Rattle.calls.proofs.PackingCalls.{slice}
-use Rattle.calls.specs.CodeCalls.{receive_call, CodeInPlace, InPlaceSays, Way, by_value, in_place, CodeReceivesBy, CodeReceives}
+use Rattle.calls.specs.Calls.{ReceiveCall, receive_order, frame_in, ReceiveStep}
+use Rattle.calls.proofs.PackingCalls.{slice, lent_to_write}
+use Rattle.calls.specs.CodeCalls.{receive_call, Way, by_value, in_place, CodeReceivesBy, CodeReceives}
 
 -- there is such a call of each way for every record, order and frame
 pub receive_had : (way : Way) (given : Record) (x : ReceiveArguments)
@@ -21,16 +21,24 @@ receive_had by_value given x = record {
   contract = refl;
   observed = refl;
 }
-receive_had in_place given x = (refl, refl)
+receive_had in_place given x = record {
+  κs = ([], ([], ([], tt)));
+  passed = (lent_to_write given, (slice x.frame, (slice x.order, tt)));
+  gave = (receive x.order given x.frame).answer;
+  left = (lent_to_write (receive x.order given x.frame).next, (slice x.frame, (slice x.order, tt)));
+  contract = (refl, refl);
+  observed = refl;
+}
 
--- the two clauses of the call in place say exactly that
-pub in_place_says : InPlaceSays
-in_place_says M 𝓤 𝓛 κs m run rec bytes order rec' bytes' order' r = (refl, refl)
+-- what a call owes: the answer and the record of the definition
+abbrev pub Owed : ReceiveCall receive_kind → Type 0
+Owed c =
+    (c.answer ≡ (receive (receive_order c) c.given (frame_in c)).answer) × (c.left ≡ (receive (receive_order c) c.given (frame_in c)).next)
 
--- whichever way it is made, a call gives the answer and the record of the definition
-pub receive_owes : (way : Way) (c : ReceiveCall receive_kind) → CodeReceivesBy way c → CodeInPlace c
-receive_owes by_value c k = subst⁻¹ CodeInPlace k.observed (λ i. (k.contract i).answer, λ i. (k.contract i).next)
-receive_owes in_place c k = k
+-- whichever way it is made
+pub receive_owes : (way : Way) (c : ReceiveCall receive_kind) → CodeReceivesBy way c → Owed c
+receive_owes by_value c k = subst⁻¹ Owed k.observed (λ i. (k.contract i).answer, λ i. (k.contract i).next)
+receive_owes in_place c k = subst⁻¹ Owed k.observed k.contract
 
 -- so a receiving call of the code does what the model does
 pub code_receives : (c : ReceiveCall receive_kind) → CodeReceives c → ReceiveStep c

@@ -14,14 +14,10 @@ use Rattle.damage.proofs.SoftReturn.{undamaged_alike}
 use Rattle.calls.specs.Model.{answer_of}
 use Rattle.calls.specs.Calls.{ReceiveStep}
 use Rattle.calls.specs.CodeCalls.{Way, by_value, in_place}
-use Rattle.calls.specs.SoftCalls.{SoftCall, plainly, CodeReceivesSoft, SoftInPlaceSays, SoftReturn, SoftHad}
+use Rattle.calls.specs.SoftCalls.{SoftCall, plainly, CodeReceivesSoft, SoftReturn, SoftHad}
 use Rattle.calls.proofs.Demands.{demand_2}
-use Rattle.calls.proofs.PackingCalls.{slice, code_packs}
+use Rattle.calls.proofs.PackingCalls.{slice, lent_to_write, code_packs}
 use Rattle.calls.proofs.Steps.{pack_order_lem, pack_sendable, pack_sent}
-
--- the two clauses of the call in place say exactly that
-pub soft_in_place_says : SoftInPlaceSays
-soft_in_place_says M 𝓤 𝓛 κs m run rec bytes order confidences rec' bytes' order' confidences' r = (refl, refl)
 
 -- such calls can be had
 module _ (order : List ℕ) (given : Record) (bytes confidences : List ℕ) where
@@ -40,15 +36,27 @@ module _ (order : List ℕ) (given : Record) (bytes confidences : List ℕ) wher
     contract = refl;
     observed = refl;
   }
-  soft_made in_place = (refl, refl)
+  soft_made in_place = record {
+    κs = ([], ([], ([], ([], tt))));
+    passed = (lent_to_write given, (slice bytes, (slice order, (slice confidences, tt))));
+    gave = found.answer;
+    left = (lent_to_write found.next, (slice bytes, (slice order, (slice confidences, tt))));
+    contract = (refl, refl);
+    observed = refl;
+  }
 
   pub soft_had : (way : Way) → SoftHad way order given bytes confidences
   soft_had way = record { call = call; made = soft_made way; order_is = refl; frame_is = refl; confidences_are = refl; given_is = refl }
 
--- whichever way it is made, a call gives the answer and the record of the definition
-pub soft_owes : (way : Way) (d : SoftCall) → CodeReceivesSoft way d → CodeReceivesSoft in_place d
-soft_owes by_value d m = subst⁻¹ (CodeReceivesSoft in_place) m.observed (λ i. (m.contract i).answer, λ i. (m.contract i).next)
-soft_owes in_place d m = m
+-- what a call owes: the answer and the record of the definition
+abbrev pub SoftOwed : SoftCall → Type 0
+SoftOwed d =
+    (d.answer ≡ (soft_receive d.order d.given d.frame d.confidences).answer) × (d.left ≡ (soft_receive d.order d.given d.frame d.confidences).next)
+
+-- whichever way it is made
+pub soft_owes : (way : Way) (d : SoftCall) → CodeReceivesSoft way d → SoftOwed d
+soft_owes by_value d m = subst⁻¹ SoftOwed m.observed (λ i. (m.contract i).answer, λ i. (m.contract i).next)
+soft_owes in_place d m = subst⁻¹ SoftOwed m.observed m.contract
 
 -- a frame that is received alike with these confidences and without: the model's step
 plain_step : (way : Way) (d : SoftCall) → CodeReceivesSoft way d
