@@ -5,10 +5,10 @@ use mathlib.Core.Path.{◌≡◌, refl, sym, ap, ◌∙◌, subst, subst⁻¹}
 use mathlib.Core.Bool.{Bool, true, false, not}
 use mathlib.Core.List.{List, [], ◌∷◌}
 use Prim.Native.Nat.{ℕ}
+use native.Mathlib.Omega.{arith}
 use lib.Dec.{T, ltb}
 use lib.ListN.{length}
 use Rattle.std.specs.Prelude.{Option, None, Some, Result, Ok, Err}
-use Rattle.std.proofs.lemmas.Option.{none-some}
 use Rattle.refusal.specs.Refusals.{first_refusal}
 use Rattle.refusal.specs.declared.Refusal.{Refusal}
 use Rattle.refusal.specs.declared.Refusal.TheVariants.{ShortOutput, OutOfRange, InvalidOrder}
@@ -34,10 +34,10 @@ pub packed_only : (ord : List ℕ) (set : ParameterSet) (room : ℕ) → pack_re
 packed_only ord set room e = go (ltb room 7) (is_order ord) (sendable set) refl refl e
   where
     go : (a b c : Bool) → is_order ord ≡ b → sendable set ≡ c → first_refusal ((a, ShortOutput) ∷ (not b, InvalidOrder) ∷ (not c, OutOfRange) ∷ []) ≡ None → Order ord × T (sendable set)
-    go true b c f g z = absurd (none-some _ (sym z))
+    go true b c f g z = search
     go false true true f g z = (is_order_only ord (T_true (is_order ord) f), subst T (sym g) tt)
-    go false true false f g z = absurd (none-some _ (sym z))
-    go false false c f g z = absurd (none-some _ (sym z))
+    go false true false f g z = search
+    go false false c f g z = search
 
 -- the value in an answer, and a given one where there is none
 value_or : {A : Type 0} → A → Answer A → A
@@ -51,9 +51,8 @@ bytes_back (Err f) bytes = refl
 
 -- a call that the model gives a result of has this result
 answer_back : (a : Result FrameResult Refusal) (x : FrameResult) → answer_of a ≡ done x → a ≡ Ok x
-unfolding value_or
-answer_back (Ok y) x e = ap (λ (b : Answer FrameResult). Ok (value_or y b)) e
-answer_back (Err f) x e = absurd (refused≢done e)
+answer_back (Ok y) x e = grind arith
+answer_back (Err f) x e = grind arith
 
 module _ {P : PackKind} (c : PackCall P) (k : PackStep c) where
   -- a packing call by the number that refuses it

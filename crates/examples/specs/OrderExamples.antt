@@ -1,5 +1,6 @@
 -- Worked out by hand: orders of a contractor's own (document 02, T-07), by the set of example 6.
-use Rattle.std.specs.Prelude.{ℕ, ◌-◌, ◌≡◌, true, false, List, [], ◌∷◌, drop, replicate}
+use Rattle.std.specs.Prelude.{ℕ, ◌-◌, ◌≡◌, true, false, List, [], ◌∷◌, drop, replicate, Some}
+use Rattle.refusal.specs.declared.Refusal.TheVariants.{ShortOutput, FrameLength, PaddingBits, OutOfRange, InvalidOrder}
 use Rattle.bits.specs.Bits.{cut}
 use Rattle.order.specs.Order.{is_order, default_order, frame_refusal}
 use Rattle.frame.specs.Layout.{frame}
@@ -53,16 +54,16 @@ pub record Received : Type 0 where
   pub plain : receive exchanged fresh exchanged_bytes ≡ receive default_order fresh ninety_bytes
   pub soft : soft_receive exchanged fresh exchanged_bytes (replicate 54 200) ≡ receive default_order fresh ninety_bytes
 
--- 10 comes after 1 and 2, and before 3, 9, 4 and 5
+-- a list that is no order is refused after a short output and a frame of another length, and before padding, confidences, a record and a set
 pub record Refused : Type 0 where
-  pub output_first : pack_refusal twice (voiced 1) 6 ≡ 1
-  pub order_before_set : pack_refusal twice (voiced 1) 7 ≡ 10
-  pub set_last : pack_refusal straight (voiced 1) 7 ≡ 5
-  pub length_first : frame_refusal twice (drop 1 ninety_bytes) ≡ 2
-  pub order_before_padding : frame_refusal twice (replicate 7 1) ≡ 10
-  pub padding_last : frame_refusal straight (replicate 7 1) ≡ 3
-  pub order_before_record : receive_refusal past (kept 32) ninety_bytes ≡ 10
-  pub order_before_confidences : soft_refusal twice fresh ninety_bytes (replicate 53 200) ≡ 10
+  pub output_first : pack_refusal twice (voiced 1) 6 ≡ Some ShortOutput
+  pub order_before_set : pack_refusal twice (voiced 1) 7 ≡ Some InvalidOrder
+  pub set_last : pack_refusal straight (voiced 1) 7 ≡ Some OutOfRange
+  pub length_first : frame_refusal twice (drop 1 ninety_bytes) ≡ Some FrameLength
+  pub order_before_padding : frame_refusal twice (replicate 7 1) ≡ Some InvalidOrder
+  pub padding_last : frame_refusal straight (replicate 7 1) ≡ Some PaddingBits
+  pub order_before_record : receive_refusal past (kept 32) ninety_bytes ≡ Some InvalidOrder
+  pub order_before_confidences : soft_refusal twice fresh ninety_bytes (replicate 53 200) ≡ Some InvalidOrder
 
 -- burst widths
 pub record Widths : Type 0 where

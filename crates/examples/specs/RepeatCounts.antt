@@ -1,5 +1,6 @@
 -- Worked out by hand: the number of repeats in a record (document 02, T-06), by example 6's frame, which is accepted, and by example 7's, a repeat.
-use Rattle.std.specs.Prelude.{ℕ, ◌≡◌, Bool, true, false, List, [], ◌∷◌, ◌++◌, replicate}
+use Rattle.std.specs.Prelude.{ℕ, ◌≡◌, Bool, true, false, List, [], ◌∷◌, ◌++◌, replicate, None, Some, Ok, Err}
+use Rattle.refusal.specs.declared.Refusal.TheVariants.{InvalidRecord}
 use Rattle.order.specs.Order.{default_order}
 use Rattle.records.specs.Records.{accepted_kind, repeated_kind}
 use Rattle.records.specs.OldRecords.{taken_over}
@@ -42,11 +43,11 @@ pub record RepeatCounts : Type 0 where
   -- all sixteen, and one more
   pub all : number_after (holding (latest_repeats 0 16) 16) (changed (0 ∷ 7 ∷ [])) ≡ 16
   -- a number that is not true
-  pub one_less : receive_refusal default_order (holding oldest_repeats 7) ninety_bytes ≡ 4
-  pub one_more : receive_refusal default_order (holding oldest_repeats 9) ninety_bytes ≡ 4
-  pub none : receive_refusal default_order (holding oldest_repeats 0) ninety_bytes ≡ 4
-  pub sixteen_more : receive_refusal default_order (holding oldest_repeats 24) ninety_bytes ≡ 4
-  pub right : receive_refusal default_order (holding oldest_repeats 8) ninety_bytes ≡ 0
+  pub one_less : receive_refusal default_order (holding oldest_repeats 7) ninety_bytes ≡ Some InvalidRecord
+  pub one_more : receive_refusal default_order (holding oldest_repeats 9) ninety_bytes ≡ Some InvalidRecord
+  pub none : receive_refusal default_order (holding oldest_repeats 0) ninety_bytes ≡ Some InvalidRecord
+  pub sixteen_more : receive_refusal default_order (holding oldest_repeats 24) ninety_bytes ≡ Some InvalidRecord
+  pub right : receive_refusal default_order (holding oldest_repeats 8) ninety_bytes ≡ None
 
 -- a record of the old kind, by its last set's bandpass bits and its last G2
 abbrev pub old_of : ℕ → ℕ → OldRecord
@@ -54,7 +55,7 @@ old_of bandpass g2 = record { last = voiced bandpass; g2 = g2; kinds = oldest_re
 
 -- taken over; the highest G2, with bandpass bits that a sender does not send; a G2 and a set out of range
 pub record TakenOverExamples : Type 0 where
-  pub taken : taken_over (old_of 2 11) ≡ record { refusal = 0; next = holding oldest_repeats 8 }
-  pub highest : (taken_over (old_of 1 31)).refusal ≡ 0
-  pub past : taken_over (old_of 2 32) ≡ record { refusal = 4; next = record { last = voiced 2; g2 = 32; kinds = oldest_repeats; repeats = 8 } }
-  pub set_past : (taken_over (old_of 16 11)).refusal ≡ 4
+  pub taken : taken_over (old_of 2 11) ≡ record { answer = Ok tt; next = holding oldest_repeats 8 }
+  pub highest : (taken_over (old_of 1 31)).answer ≡ Ok tt
+  pub past : taken_over (old_of 2 32) ≡ record { answer = Err InvalidRecord; next = record { last = voiced 2; g2 = 32; kinds = oldest_repeats; repeats = 8 } }
+  pub set_past : (taken_over (old_of 16 11)).answer ≡ Err InvalidRecord
