@@ -7,6 +7,7 @@ use mathlib.Core.Bool.{Bool, not, ◌&&◌}
 use mathlib.Core.List.{List}
 use Prim.Native.Nat.{ℕ, ◌≤◌, ◌<◌}
 use lib.Dec.{T, eqb, lit<}
+use Rattle.std.specs.Prelude.{Option, None, Some}
 use Rattle.bits.specs.Bits.{◌⊻◌, ones}
 use Rattle.bits.proofs.Tests.{and_left, and_right}
 use Rattle.order.specs.Order.{Order, place_of, logical_bit}
@@ -15,8 +16,7 @@ use Rattle.order.proofs.Refusals.{packed_taken, through_taken}
 use Rattle.sets.specs.Sets.{indices_fit, voicing_fits, sendable}
 use Rattle.frame.specs.Layout.{logical_of, frame}
 use Rattle.frame.proofs.Places.{unvoiced_places, voiced_places}
-use Rattle.reading.specs.declared.Reading.{Reading}
-use Rattle.reading.specs.declared.Reading.TheVariants.{Accepted, Erased}
+use Rattle.reading.specs.declared.Accepted.{Accepted}
 use Rattle.order.specs.Fields.{word_a, pitch_bits, sync_bit}
 use Rattle.reading.specs.Reading.{read}
 use Rattle.bursts.specs.Flips.{logical_flips, Correctable, protected_flips}
@@ -25,7 +25,7 @@ use Rattle.sets.specs.declared.Voicing.{Voicing}
 use Rattle.sets.specs.declared.ParameterSet.{ParameterSet}
 use Rattle.sets.specs.declared.ParameterSet.TheVariants.{Unvoiced, Voiced}
 use Rattle.sets.proofs.Ranges.{voicing_ranges}
-use Rattle.damage.proofs.VoicedFrames.{voiced_or_erased}
+use Rattle.damage.proofs.VoicedFrames.{set_is_voiced, voiced_or_erased}
 use Rattle.damage.proofs.Repair.{seen}
 use Rattle.damage.proofs.AnyOrder.{arrived, packed_returns, correctable_returns, double_erased, voiced_returns}
 use Rattle.records.specs.Records.{valid}
@@ -37,13 +37,19 @@ use Rattle.receiver.specs.declared.Received.{Received}
 use Rattle.receiver.proofs.Results.{result_in}
 use Rattle.receiver.proofs.Refusals.{not_refused, receive_taken}
 
+-- a voiced set that is accepted has the kind voiced
+voiced_kind : (r : Record) (sync : Bool) (set : ParameterSet) (k : ℕ) → T (set_is_voiced set)
+    → ((result_in (accepted r sync set k).answer).kind ≡ kind.Voiced) ⊎ ((result_in (accepted r sync set k).answer).kind ≡ kind.Repeat)
+unfolding accepted
+voiced_kind r sync (Unvoiced x) k t = absurd t
+voiced_kind r sync (Voiced x v) k t = inl refl
+
 -- what is not read unvoiced has the kind voiced or repeat
-step_kind : (r : Record) (sync : Bool) (x : Reading) → T (voiced_or_erased x)
+step_kind : (r : Record) (sync : Bool) (x : Option Accepted) → T (voiced_or_erased x)
     → ((result_in (step r sync x).answer).kind ≡ kind.Voiced) ⊎ ((result_in (step r sync x).answer).kind ≡ kind.Repeat)
 unfolding accepted repeated
-step_kind r sync (Accepted (Unvoiced x) k) t = absurd t
-step_kind r sync (Accepted (Voiced x v) k) t = inl refl
-step_kind r sync Erased t = inr refl
+step_kind r sync (Some x) t = voiced_kind r sync x.set x.repaired t
+step_kind r sync None t = inr refl
 
 -- the pitch index of a voiced set that a sender takes
 sendable_pitch : (x : Indices) (v : Voicing) → T (sendable (Voiced x v)) → v.pitch < 99

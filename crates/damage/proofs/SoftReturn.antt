@@ -15,8 +15,7 @@ use Rattle.pitch.specs.Pitch.{class_of}
 use Rattle.pitch.specs.declared.PitchClass.{PitchClass}
 use Rattle.pitch.specs.declared.PitchClass.TheVariants as class
 use Rattle.pitch.proofs.Codes.{index_back}
-use Rattle.hamming.specs.Word.{data_bits, encode, decode}
-use Rattle.hamming.specs.declared.Decoded.TheVariants as word
+use Rattle.hamming.specs.Word.{data_bits, encode, read_as, decode}
 use Rattle.hamming.proofs.Repairs.{decode_back}
 use Rattle.order.specs.Order.{Order, place_of, frame_of, logical_bit}
 use Rattle.order.specs.Fields.{word_a, word_b, word_c, word_d, pitch_bits}
@@ -53,7 +52,7 @@ every_cut q i (suc n) h = (h i (omega arith), every_cut q (suc i) n (λ j b. h j
 
 module _ (q : ℕ → ℕ) (above : (j : ℕ) → j < 28 → 0 < q j) where
   -- a word as sent gives its data back
-  sent_word : (i n : ℕ) → 6 ≤ n → n ≤ 8 → i + n ≤ 28 → (d : List Bool) → length d ≡ data_bits n → choose n (cut q i n) (encode n d) ≡ word.Read (value d) 0
+  sent_word : (i n : ℕ) → 6 ≤ n → n ≤ 8 → i + n ≤ 28 → (d : List Bool) → length d ≡ data_bits n → choose n (cut q i n) (encode n d) ≡ read_as (value d) 0
   sent_word i n l m b d h = claims.sent n l m (cut q i n) (cut_length q i n) (every_cut q i n (λ j c. above j (omega arith))) d h
 
   module _ (x : Indices) (sync : Bool) where

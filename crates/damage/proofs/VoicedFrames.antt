@@ -4,6 +4,7 @@ use mathlib.Core.Bool.{Bool, true, false}
 use Prim.Native.Nat.{ℕ, ◌≤◌, ◌<◌}
 use mathlib.Core.Path.{refl}
 use lib.Dec.{T}
+use Rattle.std.specs.Prelude.{Option, None, Some}
 use Rattle.bits.specs.Bits.{ones}
 use Rattle.pitch.specs.Pitch.{class_of}
 use Rattle.pitch.specs.declared.PitchClass.{PitchClass}
@@ -15,15 +16,18 @@ use Rattle.reading.specs.Reading.{by_class, read}
 use Rattle.sets.specs.declared.Indices.{Indices}
 use Rattle.sets.specs.declared.Voicing.{Voicing}
 use Rattle.sets.specs.declared.ParameterSet.TheVariants.{Unvoiced, Voiced}
-use Rattle.reading.specs.declared.Reading.{Reading}
-use Rattle.reading.specs.declared.Reading.TheVariants.{Accepted, Erased}
+use Rattle.sets.specs.declared.ParameterSet.{ParameterSet}
+use Rattle.reading.specs.declared.Accepted.{Accepted}
 use Rattle.damage.proofs.Repair.{damaged}
 
 -- read voiced, or erased
-abbrev pub voiced_or_erased : Reading → Bool
-voiced_or_erased (Accepted (Unvoiced x) k) = false
-voiced_or_erased (Accepted (Voiced x v) k) = true
-voiced_or_erased Erased = true
+abbrev pub set_is_voiced : ParameterSet → Bool
+set_is_voiced (Unvoiced x) = false
+set_is_voiced (Voiced x v) = true
+
+abbrev pub voiced_or_erased : Option Accepted → Bool
+voiced_or_erased (Some r) = set_is_voiced r.set
+voiced_or_erased None = true
 
 by_class_lem : (g : ℕ → Bool) (c : PitchClass) → T (not_unvoiced c) → T (voiced_or_erased (by_class g c))
 by_class_lem g class.Unvoiced t = absurd t
