@@ -4,8 +4,7 @@ use Rattle.std.specs.Prelude.{◌≡◌, List, [], ◌∷◌, map}
 use contract.Lifetimes.{Lfts}
 use borrow.Fn.World.{ArgsD, ResD}
 use denote.Triple.Clauses.{AtExit}
-use Rattle.refusal.specs.Refusals.{unless}
-use Rattle.records.specs.OldRecords.{old_refusal, with_count}
+use Rattle.records.specs.OldRecords.{old_answer, with_count}
 use Rattle.records.specs.declared.OldRecord.{OldRecord}
 use Rattle.records.specs.declared.Record.{Record}
 use Rattle.records.specs.declared.TakenOver.{TakenOver}
@@ -43,10 +42,10 @@ old_model old x = record { answer = answer_of (old_call old x).answer; state = (
 abbrev pub outcome_in_step : Outcome FrameResult OldRecord → Outcome FrameResult Record
 outcome_in_step o = record { answer = o.answer; state = with_count o.state }
 
--- what is claimed: the old record is refused with 4 where it is not valid, and beside the number stands the record with the count; each call afterwards
+-- what is claimed: the old record is refused where it is not valid, and beside the refusal stands the record with the count; each call afterwards
 -- has the answer that the old receiver gives, and leaves the record that this one leaves, taken over
 pub record KeptInStep (t : TakingCall) (cs : List AnyCall) : Type 0 where
-  pub refusal : t.gave.answer ≡ unless (old_refusal t.old) tt
+  pub refusal : t.gave.answer ≡ old_answer t.old
   pub next : t.gave.next ≡ with_count t.old
   pub received : map any_outcome cs ≡ map outcome_in_step (outcomes old_model t.old (map (λ c. c.passed) cs))
 
