@@ -1,34 +1,30 @@
 -- The three lines before the frames, by the bytes at their places: which is bad, how many frames they promise, and what follows them. Assumes nothing.
 use mathlib.Core.Path.{◌≡◌, refl, sym, ap, ◌∙◌}
-use mathlib.Core.Bool.{Bool, true, false, not, ◌&&◌, and-false, and-eq-true_iff}
-use mathlib.Core.List.{List, [], ◌∷◌, ◌++◌}
+use mathlib.Core.Bool.{Bool, true, false, ◌&&◌, and-false, and-eq-true_iff}
+use mathlib.Core.List.{List, ◌++◌}
 use Prim.Native.Nat.{ℕ, ◌+◌, ◌≤◌}
 use native.Mathlib.Omega.{arith}
 use lib.Dec.{leb}
 use lib.ListN.{length, take, drop}
 use lib.Seq.{drop-drop}
 use borrow.Author.Tests.{leb-true}
-use Rattle.refusal.specs.Refusals.{first_refusal}
+use Rattle.std.specs.Prelude.{None}
 use Rattle.text.specs.Text.{ascii, decimal}
 use Rattle.session.specs.Format.{file_line, order_line, count_line, header, most_frames}
 use Rattle.session_lines.specs.Lines.{line_of, same_bytes, digits_value, count_of, is_count_line}
 use Rattle.session_lines.specs.Scans.{begins}
-use Rattle.session_lines.specs.Headers.{third_line, bad_header_line, frames_in, first_place}
+use Rattle.session_lines.specs.Headers.{third_line, first_bad, bad_header_line, frames_in, first_place}
 use Rattle.session_lines.proofs.Scans.{begins_join}
 use Rattle.session_lines.proofs.WholeLines.{line_begins}
 use Rattle.session_lines.proofs.CountLines.{count_begins, count_digits}
 
--- the first of three lines that is bad, by whether each is good
-abbrev pub first_of : Bool → Bool → Bool → ℕ
-first_of a b c = first_refusal ((not a, 1) ∷ (not b, 2) ∷ (not c, 3) ∷ [])
-
 -- the first bad line, by what stands at the place of each
-pub bad_is : (text : List ℕ) → bad_header_line text ≡ first_of (begins file_line text) (begins order_line (drop 10 text)) (is_count_line (third_line text))
+pub bad_is : (text : List ℕ) → bad_header_line text ≡ first_bad (begins file_line text) (begins order_line (drop 10 text)) (is_count_line (third_line text))
 unfolding bad_header_line
 bad_is text =
     let a : same_bytes (line_of text) file_line ≡ begins file_line text = line_begins (ascii "file=melp") text (omega arith) in
     let b : same_bytes (line_of (drop 10 text)) order_line ≡ begins order_line (drop 10 text) = line_begins (ascii "order=house") (drop 10 text) (omega arith) in
-    λ i. first_of (a i) (b i) (is_count_line (third_line text))
+    λ i. first_bad (a i) (b i) (is_count_line (third_line text))
 
 -- what good lines are: none is bad, and the third is that for the number of frames
 pub record Passed (text : List ℕ) : Type 0 where
@@ -37,17 +33,17 @@ pub record Passed (text : List ℕ) : Type 0 where
   pub count : begins (count_line (frames_in text)) (drop 22 text) ≡ true
   pub most : frames_in text ≤ most_frames
 
-pub header_passed : (text : List ℕ) → bad_header_line text ≡ 0 → Passed text
+pub header_passed : (text : List ℕ) → bad_header_line text ≡ None → Passed text
 unfolding is_count_line frames_in
 header_passed text e = go (begins file_line text) (begins order_line (drop 10 text)) (is_count_line (third_line text)) refl refl refl (sym (bad_is text) ∙ e)
   where
     m : ℕ
     m = count_of (third_line text)
 
-    go : (a b c : Bool) → begins file_line text ≡ a → begins order_line (drop 10 text) ≡ b → is_count_line (third_line text) ≡ c → first_of a b c ≡ 0 → Passed text
-    go false b c f o p z = absurd (omega arith)
-    go true false c f o p z = absurd (omega arith)
-    go true true false f o p z = absurd (omega arith)
+    go : (a b c : Bool) → begins file_line text ≡ a → begins order_line (drop 10 text) ≡ b → is_count_line (third_line text) ≡ c → first_bad a b c ≡ None → Passed text
+    go false b c f o p z = absurd cc
+    go true false c f o p z = absurd cc
+    go true true false f o p z = absurd cc
     go true true true f o p z =
         let q = (and-eq-true_iff (leb m most_frames) (same_bytes (third_line text) (count_line m))).0 p in
         record { file = f; order = o; count = sym (count_begins m (drop 22 text)) ∙ q.1; most = leb-true m most_frames q.0 }
@@ -76,15 +72,15 @@ module _ (text : List ℕ) (n : ℕ) (is : n ≡ digits_value 0 (take 4 (drop 29
       go false e = rw (name_begins n (drop 22 text), name_begins m (drop 22 text), e, and-false (leb n most_frames), and-false (leb m most_frames)) refl
 
   -- the first bad line is the first that is not at its place
-  pub bad_by : bad_header_line text ≡ first_of (begins file_line text) (begins order_line (drop 10 text)) (leb n most_frames && begins (count_line n) (drop 22 text))
-  bad_by = bad_is text ∙ ap (λ (c : Bool). first_of (begins file_line text) (begins order_line (drop 10 text)) c) (sym third_is)
+  pub bad_by : bad_header_line text ≡ first_bad (begins file_line text) (begins order_line (drop 10 text)) (leb n most_frames && begins (count_line n) (drop 22 text))
+  bad_by = bad_is text ∙ ap (λ (c : Bool). first_bad (begins file_line text) (begins order_line (drop 10 text)) c) (sym third_is)
 
   -- three good lines promise as many frames as the digits write
-  pub frames_is : bad_header_line text ≡ 0 → frames_in text ≡ n
+  pub frames_is : bad_header_line text ≡ None → frames_in text ≡ n
   unfolding frames_in
   frames_is e = number_is ((and-eq-true_iff _ _).0 (sym (name_begins (frames_in text) (drop 22 text)) ∙ (header_passed text e).count)).0
 
   -- and the first frame's line comes after them
-  pub first_is : bad_header_line text ≡ 0 → first_place text ≡ 22 + length (count_line n)
+  pub first_is : bad_header_line text ≡ None → first_place text ≡ 22 + length (count_line n)
   unfolding first_place header
   first_is e = rw (frames_is e) (omega arith)

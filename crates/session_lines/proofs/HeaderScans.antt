@@ -9,6 +9,7 @@ use lib.ListN.{length, get_or, take, drop}
 use lib.Seq.{drop-drop, get_or-drop}
 use borrow.Author.Tests.{eq-eqb, ne_eqb, eqb-true, eqb-false}
 use Rattle.text.specs.Text.{ascii, decimal}
+use Rattle.std.specs.Prelude.{None}
 use Rattle.session.specs.Format.{count_line, most_frames}
 use Rattle.session_lines.specs.Lines.{is_count_line}
 use Rattle.session_lines.specs.Scans.{begins, digits_in, Counted}
@@ -51,7 +52,7 @@ module _ (text : List ℕ) (n end : ℕ) (counted : Counted text n end) where
       ∙ ap (λ (b : Bool). leb n most_frames && b) (name_begins n (drop 22 text) ∙ ap (λ (b : Bool). begins (ascii "frames=") (drop 22 text) && b) (number_begins ∙ marks_are))
 
   -- the first frame's line comes after the number and the line end
-  pub scan_first : bad_header_line text ≡ 0 → first_place text ≡ end + 1
+  pub scan_first : bad_header_line text ≡ None → first_place text ≡ end + 1
   scan_first e =
       let line = ap (λ (k : ℕ). begins (count_line k) (drop 22 text)) (sym (frames_is text n counted.0 e)) ∙ (header_passed text e).count in
       let name = begins (ascii "frames=") (drop 22 text) in

@@ -5,6 +5,7 @@ use Prim.Native.Nat.{ℕ, ◌+◌, ◌≤◌}
 use native.Mathlib.Omega.{arith}
 use lib.ListN.{length, drop}
 use lib.Seq.{drop-drop}
+use Rattle.std.specs.Prelude.{None}
 use Rattle.session.specs.Format.{file_line, order_line, count_line, header, most_frames}
 use Rattle.session_lines.specs.Lines.{line_of}
 use Rattle.session_lines.specs.Headers.{bad_header_line, frames_in, first_place}
@@ -18,7 +19,7 @@ unfolding first_place header
 place_is text = omega arith
 
 -- three good lines are the header for the frames that they promise
-pub good_header : (text : List ℕ) → bad_header_line text ≡ 0 → (text ≡ header (frames_in text) ++ drop (first_place text) text) × (frames_in text ≤ most_frames)
+pub good_header : (text : List ℕ) → bad_header_line text ≡ None → (text ≡ header (frames_in text) ++ drop (first_place text) text) × (frames_in text ≤ most_frames)
 unfolding header
 good_header text e =
     let p = header_passed text e in
@@ -36,7 +37,7 @@ good_header text e =
 
 module _ (n : ℕ) (rest : List ℕ) (h : n ≤ most_frames) where
   -- the header for at most 2,000 frames has three good lines
-  pub header_good : bad_header_line (header n ++ rest) ≡ 0
+  pub header_good : bad_header_line (header n ++ rest) ≡ None
   unfolding bad_header_line header line_of
   header_good = rw (count_first n rest, count_good n h) refl
 

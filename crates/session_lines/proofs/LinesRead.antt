@@ -1,55 +1,60 @@
--- What is read of lines, by whether one is bad: for those who know the calls by their answers. Assumes nothing.
-use mathlib.Core.Path.{◌≡◌, refl, ap}
+-- What is read of lines, by the answer of a call: for those who know the calls by their answers. Assumes nothing.
+use mathlib.Core.Path.{◌≡◌, refl, sym, ap, ◌∙◌}
 use mathlib.Core.Bool.{Bool, true, false, not}
 use mathlib.Core.List.{List, [], ◌∷◌}
-use Prim.Native.Nat.{ℕ, zero, suc}
-use native.Mathlib.Omega.{arith}
-use Rattle.refusal.specs.Refusals.{first_refusal}
+use Prim.Native.Nat.{ℕ}
+use Rattle.std.specs.Prelude.{Option, None, Some, Ok, Err}
+use Rattle.refusal.specs.Refusals.{first_refusal, unless}
+use Rattle.refusal.specs.declared.Refusal.{Refusal}
+use Rattle.refusal.specs.declared.Refusal.TheVariants.{PaddingBits, BadLine}
 use Rattle.session.specs.Writing.{is_padded}
-use Rattle.session_lines.specs.Lines.{is_frame_line, frame_of, line_refusal, frame_unless, frame_read}
+use Rattle.session_lines.specs.Lines.{is_frame_line, frame_of, line_refusal, frame_read}
 use Rattle.session_lines.specs.Headers.{bad_header_line, frames_in, first_place, told_unless, header_of}
+use Rattle.session_lines.specs.declared.header.Header.{Header}
+use Rattle.session_lines.specs.declared.header.LineRefusal.{LineRefusal}
 
 module _ (text : List ℕ) where
   -- three lines that are refused: the first bad one is told
-  pub header_refused : ((header_of text).refusal ≡ 0 → ⊥)
-      → (header_of text ≡ record { refusal = 8; line = bad_header_line text; frames = 0; first = 0 }) × (bad_header_line text ≡ 0 → ⊥)
+  pub header_refused : (r : LineRefusal) → header_of text ≡ Err r → (bad_header_line text ≡ Some r.line) × (r ≡ record { refusal = BadLine; line = r.line })
   unfolding header_of
-  header_refused h = go (bad_header_line text) h
+  header_refused r e = go (bad_header_line text) e
     where
-      go : (n : ℕ) → ((told_unless n text).refusal ≡ 0 → ⊥) → (told_unless n text ≡ record { refusal = 8; line = n; frames = 0; first = 0 }) × (n ≡ 0 → ⊥)
-      go zero f = absurd (f refl)
-      go (suc n) f = (refl, λ z. omega arith)
+      go : (b : Option ℕ) → told_unless b text ≡ Err r → (b ≡ Some r.line) × (r ≡ record { refusal = BadLine; line = r.line })
+      go None f = absurd cc
+      go (Some line) f = let e : record { refusal = BadLine; line = line } ≡ r = cc in (ap (λ (x : LineRefusal). Some x.line) e, sym e ∙ ap (λ (x : LineRefusal). record { refusal = BadLine; line = x.line }) e)
 
   -- three good ones: how many frames there are, and where the first one's line starts
-  pub header_taken : (header_of text).refusal ≡ 0
-      → (header_of text ≡ record { refusal = 0; line = 0; frames = frames_in text; first = first_place text }) × (bad_header_line text ≡ 0)
+  pub header_taken : (h : Header) → header_of text ≡ Ok h → (bad_header_line text ≡ None) × ((h.frames ≡ frames_in text) × (h.first ≡ first_place text))
   unfolding header_of
-  header_taken e = go (bad_header_line text) e
+  header_taken h e = go (bad_header_line text) e
     where
-      go : (n : ℕ) → (told_unless n text).refusal ≡ 0
-          → (told_unless n text ≡ record { refusal = 0; line = 0; frames = frames_in text; first = first_place text }) × (n ≡ 0)
-      go zero f = (refl, refl)
-      go (suc n) f = absurd (omega arith)
+      go : (b : Option ℕ) → told_unless b text ≡ Ok h → (b ≡ None) × ((h.frames ≡ frames_in text) × (h.first ≡ first_place text))
+      go None f = (refl, (cc, cc))
+      go (Some line) f = absurd cc
 
 module _ (line : List ℕ) where
-  -- what is read of a line has its refusal
-  pub line_refusal_lem : (frame_read line).refusal ≡ line_refusal line
+  -- a line that is refused
+  pub line_refused : (f : Refusal) → frame_read line ≡ Err f → line_refusal line ≡ Some f
   unfolding frame_read
-  line_refusal_lem = go (line_refusal line)
+  line_refused f e = go (line_refusal line) e
     where
-      go : (n : ℕ) → (frame_unless n (frame_of line)).refusal ≡ n
-      go zero = refl
-      go (suc n) = refl
+      go : (n : Option Refusal) → unless n (frame_of line) ≡ Err f → n ≡ Some f
+      go None h = absurd cc
+      go (Some g) h = cc
 
-  -- where there is none, the frame in it
-  pub line_frame : line_refusal line ≡ 0 → (frame_read line).frame ≡ frame_of line
+  -- where none is, the frame in it
+  pub line_taken : (frame : List ℕ) → frame_read line ≡ Ok frame → (line_refusal line ≡ None) × (frame ≡ frame_of line)
   unfolding frame_read
-  line_frame e = ap (λ (n : ℕ). (frame_unless n (frame_of line)).frame) e
+  line_taken frame e = go (line_refusal line) e
+    where
+      go : (n : Option Refusal) → unless n (frame_of line) ≡ Ok frame → (n ≡ None) × (frame ≡ frame_of line)
+      go None h = (refl, cc)
+      go (Some g) h = absurd cc
 
   -- and it is one
-  pub line_good : line_refusal line ≡ 0 → is_frame_line line ≡ true
+  pub line_good : line_refusal line ≡ None → is_frame_line line ≡ true
   line_good e = go (is_frame_line line) e
     where
-      go : (b : Bool) → first_refusal ((not b, 8) ∷ (is_padded (frame_of line), 3) ∷ []) ≡ 0 → b ≡ true
+      go : (b : Bool) → first_refusal ((not b, BadLine) ∷ (is_padded (frame_of line), PaddingBits) ∷ []) ≡ None → b ≡ true
       go true z = refl
-      go false z = absurd (omega arith)
+      go false z = absurd cc

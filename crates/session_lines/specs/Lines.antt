@@ -1,11 +1,12 @@
 -- Document 02, T-01: the lines of a text, and which of them belong in a session file. Each is judged with its end.
-use Rattle.std.specs.Prelude.{ℕ, zero, suc, ◌+◌, ◌-◌, ◌*◌, ◌<◌, ◌≡◌, Bool, true, false, not, ◌&&◌, ◌||◌, cond, List, [], ◌∷◌, ltb, leb, eqb, length, take, drop, replicate}
+use Rattle.std.specs.Prelude.{ℕ, ◌+◌, ◌-◌, ◌*◌, ◌<◌, ◌≡◌, Bool, true, false, not, ◌&&◌, ◌||◌, cond, List, [], ◌∷◌, ltb, leb, eqb, length, take, drop, Option, Result}
 use Rattle.bits.specs.Lists.{Every}
-use Rattle.refusal.specs.Refusals.{Table, first_refusal}
+use Rattle.refusal.specs.Refusals.{Table, first_refusal, unless}
+use Rattle.refusal.specs.declared.Refusal.{Refusal}
+use Rattle.refusal.specs.declared.Refusal.TheVariants.{PaddingBits, BadLine}
 use Rattle.text.specs.Text.{ascii}
 use Rattle.session.specs.Format.{count_line, most_frames}
 use Rattle.session.specs.Writing.{is_padded}
-use Rattle.session_lines.specs.declared.frames.FrameLine.{FrameLine}
 
 -- the first line of a text with the LF that ends it; all of it where there is none
 unfoldable pub line_of : List ℕ → List ℕ
@@ -73,19 +74,12 @@ Seven frame = (length frame ≡ 7) × Every (λ b. b < 256) frame
 
 -- what refuses a line where a frame's is due: it is none; its frame has padding bits
 abbrev pub line_table : List ℕ → Table
-line_table line = (not (is_frame_line line), 8) ∷ (is_padded (frame_of line), 3) ∷ []
+line_table line = (not (is_frame_line line), BadLine) ∷ (is_padded (frame_of line), PaddingBits) ∷ []
 
--- the refusal, 0 is none
-abbrev pub line_refusal : List ℕ → ℕ
+-- the refusal
+abbrev pub line_refusal : List ℕ → Option Refusal
 line_refusal line = first_refusal (line_table line)
 
 -- what is read of such a line: the frame, or the refusal
-abbrev pub no_frame : ℕ → FrameLine
-no_frame n = record { refusal = n; frame = replicate 7 0 }
-
-abbrev pub frame_unless : ℕ → List ℕ → FrameLine
-frame_unless zero frame = record { refusal = 0; frame = frame }
-frame_unless (suc n) frame = no_frame (suc n)
-
-unfoldable pub frame_read : List ℕ → FrameLine
-frame_read line = frame_unless (line_refusal line) (frame_of line)
+unfoldable pub frame_read : List ℕ → Result (List ℕ) Refusal
+frame_read line = unless (line_refusal line) (frame_of line)

@@ -1,13 +1,8 @@
 // The line of a frame.
 ghost use Rattle.std.specs.Prelude.{◌≡◌, true, ◌+◌, ◌*◌, ◌≤◌, length};
-ghost use Rattle.session_lines.specs.Lines.{line_at, is_hex, hex_value, all_hex, hex_bytes, is_frame_line, frame_of, no_frame, frame_read};
+ghost use Rattle.session_lines.specs.Lines.{line_at, is_hex, hex_value, all_hex, hex_bytes, is_frame_line, frame_of, frame_read};
 
-// The refusal of a line, 0 for none, and its frame, seven zeros where it is refused.
-#[derive(Clone, Copy)]
-pub struct FrameLine {
-    pub refusal: u8,
-    pub frame: [u8; 7],
-}
+use refusal::Refusal;
 
 // Whether a byte is a lower-case hexadecimal digit.
 fn is_hex(c: u8) -> bool
@@ -80,26 +75,16 @@ fn frame_in(text: &[u8], at: usize) -> [u8; 7]
     seven_bytes(&text[at + 2..at + 16])
 }
 
-// A line that is refused.
-fn no_frame(n: u8) -> FrameLine
-    ensures { result ≡ no_frame n }
-{
-    FrameLine {
-        refusal: n,
-        frame: [0; 7],
-    }
-}
-
-// The frame of the line from `at` on. Refused: 8, a line that is none; 3, one of the frame's last two bits set.
-pub fn read_frame(text: &[u8], at: usize) -> FrameLine
+// The frame of the line from `at` on. A line that is none is bad; the last two bits of a frame are 0.
+pub fn read_frame(text: &[u8], at: usize) -> Result<[u8; 7], Refusal>
     ensures { result ≡ frame_read (line_at text.now at) }
 {
     if !is_frame_line(text, at) {
-        return no_frame(8);
+        return Err(Refusal::BadLine);
     }
     let frame = frame_in(text, at);
     if frame[6] % 4 != 0 {
-        return no_frame(3);
+        return Err(Refusal::PaddingBits);
     }
-    FrameLine { refusal: 0, frame }
+    Ok(frame)
 }

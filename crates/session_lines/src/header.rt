@@ -5,15 +5,20 @@ ghost use Rattle.session_lines.specs.Headers.{third_line, bad_header_line, heade
 ghost use Rattle.session_lines.specs.Scans.{Counted};
 
 use crate::bytes::has_bytes;
+use refusal::Refusal;
 
-// The refusal of the lines, 0 for none, and the bad one; how many frames follow, and where the first one's line starts, both
-// 0 where a line is bad.
-#[derive(Clone, Copy)]
+// How many frames follow, and where the first one's line starts.
+#[derive(Clone, Copy, Debug, PartialEq, Eq)]
 pub struct Header {
-    pub refusal: u8,
-    pub line: u16,
     pub frames: usize,
     pub first: usize,
+}
+
+// What refuses a line, and the number of that line, from 1; 0 where no line can start.
+#[derive(Clone, Copy, Debug, PartialEq, Eq)]
+pub struct LineRefusal {
+    pub refusal: Refusal,
+    pub line: u16,
 }
 
 // A number in a text, and the offset where it ends.
@@ -59,41 +64,36 @@ fn is_count_line(text: &[u8], value: usize, end: usize) -> bool
     (value <= 2000) & ((b'0' < text[29]) | (end == 30)) & (text[end] == b'\n')
 }
 
-// The first bad line, 0 for none.
-fn bad_line(text: &[u8], value: usize, end: usize) -> u16
+// The first bad line.
+fn bad_line(text: &[u8], value: usize, end: usize) -> Option<u16>
     requires { Counted text.now value end }
     ensures { result ≡ bad_header_line text.now }
 {
     if !has_bytes(text, 0, b"file=melp\n") {
-        return 1;
+        return Some(1);
     }
     if !has_bytes(text, 10, b"order=house\n") {
-        return 2;
+        return Some(2);
     }
     if !is_count_line(text, value, end) {
-        return 3;
+        return Some(3);
     }
-    0
+    None
 }
 
-// What the three lines of a text tell, each judged in turn. Refused: 8, a bad one.
-pub fn read_header(text: &[u8]) -> Header
+// What the three lines of a text tell, each judged in turn; the first bad one is refused.
+pub fn read_header(text: &[u8]) -> Result<Header, LineRefusal>
     ensures { result ≡ header_of text.now }
 {
     let count = count_in(text);
-    let bad = bad_line(text, count.value, count.end);
-    if bad != 0 {
-        return Header {
-            refusal: 8,
-            line: bad,
-            frames: 0,
-            first: 0,
-        };
-    }
-    Header {
-        refusal: 0,
-        line: 0,
-        frames: count.value,
-        first: count.end + 1,
+    match bad_line(text, count.value, count.end) {
+        Some(line) => Err(LineRefusal {
+            refusal: Refusal::BadLine,
+            line,
+        }),
+        None => Ok(Header {
+            frames: count.value,
+            first: count.end + 1,
+        }),
     }
 }

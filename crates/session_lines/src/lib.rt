@@ -9,5 +9,5 @@ mod bytes;
 mod frames;
 mod header;
 
-pub use frames::{FrameLine, read_frame};
-pub use header::{Header, read_header};
+pub use frames::read_frame;
+pub use header::{Header, LineRefusal, read_header};

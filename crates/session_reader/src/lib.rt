@@ -9,23 +9,13 @@ mod reader;
 mod steps;
 
 pub use reader::{Handed, Reader, read_at};
+pub use session_lines::LineRefusal;
 pub use steps::parse_at;
 
-// What stands at an offset of a text.
-#[derive(Clone, Copy)]
-pub enum Answer {
-    // The line of a frame.
-    Frame,
-    // The end of the file.
-    End,
-    // The number of the refusal, and that of the line, from 1; 0 where no line can start at the offset.
-    Refused(u8, u16),
-}
-
-// One step of reading: the answer, the frame beside `Answer::Frame` and otherwise seven zeros, and the offset after it.
-#[derive(Clone, Copy)]
+// One step of reading: what stands at an offset of a text, a frame's line or the end of the file, or the refusal of a bad
+// line, of line 0 where no line can start there; and the offset after it.
+#[derive(Clone, Copy, Debug, PartialEq, Eq)]
 pub struct Step {
-    pub answer: Answer,
-    pub frame: [u8; 7],
+    pub answer: Result<Option<[u8; 7]>, LineRefusal>,
     pub at: usize,
 }

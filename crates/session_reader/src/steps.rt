@@ -1,19 +1,20 @@
 // The parser: what stands at an offset of a text.
-ghost use Rattle.std.specs.Prelude.{◌≡◌, ◌<◌};
-ghost use Rattle.session_reader.specs.Steps.{stays, place_of, is_place, frame_step, last_step, step_after, step_at};
+ghost use Rattle.std.specs.Prelude.{◌≡◌, ◌+◌, ◌≤◌, ◌<◌, IfSome};
+ghost use Rattle.session_reader.specs.Steps.{refused, place_of, placed, frame_step, last_step, step_after, step_at};
 
-use crate::{Answer, Step};
-use session_lines::{read_frame, read_header};
+use crate::Step;
+use refusal::Refusal;
+use session_lines::{Header, LineRefusal, read_frame, read_header};
 
-// A step that hands on no frame: the offset stays.
-fn stay(answer: Answer, at: usize) -> Step
-    ensures { result ≡ stays answer at }
+// The refusal of the line after those of k frames; lines count from 1.
+fn refused(refusal: Refusal, k: usize) -> Result<Option<[u8; 7]>, LineRefusal>
+    requires { k < 10000 }
+    ensures { result ≡ refused refusal (k + 4) }
 {
-    Step {
-        answer,
-        frame: [0; 7],
-        at,
-    }
+    Err(LineRefusal {
+        refusal,
+        line: (k + 4) as u16,
+    })
 }
 
 // The line at a place, after those of k frames.
@@ -21,16 +22,15 @@ fn frame_step(text: &[u8], k: usize, at: usize, place: usize) -> Step
     requires { k < 10000 }
     ensures { result ≡ frame_step text.now k at place }
 {
-    let line = read_frame(text, place);
-    let n = line.refusal;
-    if n != 0 {
-        return stay(Answer::Refused(n, (k + 4) as u16), at);
-    }
-    let frame = line.frame;
-    Step {
-        answer: Answer::Frame,
-        frame,
-        at: place + 17,
+    match read_frame(text, place) {
+        Ok(frame) => Step {
+            answer: Ok(Some(frame)),
+            at: place + 17,
+        },
+        Err(refusal) => Step {
+            answer: refused(refusal, k),
+            at,
+        },
     }
 }
 
@@ -40,19 +40,31 @@ fn last_step(text: &[u8], k: usize, at: usize, place: usize) -> Step
     ensures { result ≡ last_step text.now k at place }
 {
     if text.len() == place {
-        return stay(Answer::End, at);
+        return Step {
+            answer: Ok(None),
+            at,
+        };
     }
-    stay(Answer::Refused(8, (k + 4) as u16), at)
+    Step {
+        answer: refused(Refusal::BadLine, k),
+        at,
+    }
 }
 
-// Whether one of so many frames' lines starts at the place, or the last one ends there.
-fn is_place(first: usize, frames: usize, place: usize) -> bool
-    ensures { result ≡ is_place first frames place }
+// How many frames' lines stand before a place: where one of so many starts, or the last one ends.
+fn frames_before(header: Header, place: usize) -> Option<usize>
+    ensures equal { result ≡ placed header.first header.frames place }
+    ensures bound { IfSome result (λ k. k ≤ header.frames) }
 {
-    if place < first {
-        return false;
+    if place < header.first {
+        return None;
     }
-    ((place - first) % 17 == 0) & ((place - first) / 17 <= frames)
+    let past = place - header.first;
+    if past % 17 == 0 && past / 17 <= header.frames {
+        Some(past / 17)
+    } else {
+        None
+    }
 }
 
 // Where the line to read starts.
@@ -63,30 +75,34 @@ fn place_of(first: usize, at: usize) -> usize
 }
 
 // The step after three good lines.
-fn step_after(text: &[u8], first: usize, frames: usize, at: usize) -> Step
-    requires { frames < 10000 }
-    ensures { result ≡ step_after text.now first frames at }
+fn step_after(text: &[u8], header: Header, at: usize) -> Step
+    requires { header.frames < 10000 }
+    ensures { result ≡ step_after text.now header.first header.frames at }
 {
-    let place = place_of(first, at);
-    if !is_place(first, frames, place) {
-        return stay(Answer::Refused(8, 0), at);
+    let place = place_of(header.first, at);
+    match frames_before(header, place) {
+        None => Step {
+            answer: Err(LineRefusal {
+                refusal: Refusal::BadLine,
+                line: 0,
+            }),
+            at,
+        },
+        Some(k) if k == header.frames => last_step(text, k, at, place),
+        Some(k) => frame_step(text, k, at, place),
     }
-    let k = (place - first) / 17;
-    if k == frames {
-        return last_step(text, k, at, place);
-    }
-    frame_step(text, k, at, place)
 }
 
-// What stands at an offset. Reading begins at 0. Refused: 8, a line that belongs to no session file, the first three judged
-// first, or an offset where no line can start; 3, a frame's line with one of its last two bits set.
+// What stands at an offset; reading begins at 0. Refused are a line that belongs to no session file, the first three judged
+// first, an offset where no line can start, and a frame's line with one of its last two bits set.
 pub fn parse_at(text: &[u8], at: usize) -> Step
     ensures { result ≡ step_at text.now at }
 {
-    let header = read_header(text);
-    let n = header.refusal;
-    if n != 0 {
-        return stay(Answer::Refused(n, header.line), at);
+    match read_header(text) {
+        Ok(header) => step_after(text, header, at),
+        Err(refusal) => Step {
+            answer: Err(refusal),
+            at,
+        },
     }
-    step_after(text, header.first, header.frames, at)
 }

@@ -7,15 +7,15 @@ use lib.ListN.{drop}
 use Rattle.session.specs.Format.{file_line, order_line}
 use Rattle.session_lines.specs.Lines.{is_count_line}
 use Rattle.session_lines.specs.Scans.{begins}
-use Rattle.session_lines.specs.Headers.{third_line, bad_header_line}
-use Rattle.session_lines.proofs.HeaderLines.{first_of, bad_is}
+use Rattle.session_lines.specs.Headers.{third_line, first_bad, bad_header_line}
+use Rattle.session_lines.proofs.HeaderLines.{bad_is}
 use Rattle.session_lines.proofs.header.bad_line.Goals as goal
 use Rattle.session_lines.proofs.header.bad_line.Goals.{After-is_count_line, Else-not-has_bytes, Start}
 
 -- the first bad line by the three tests
 by_tests : (text : List ℕ) (file order count : Bool) → file ≡ begins file_line text → order ≡ begins order_line (drop 10 text)
-    → count ≡ is_count_line (third_line text) → first_of file order count ≡ bad_header_line text
-by_tests text file order count f o c = (λ i. first_of (f i) (o i) (c i)) ∙ sym (bad_is text)
+    → count ≡ is_count_line (third_line text) → first_bad file order count ≡ bad_header_line text
+by_tests text file order count f o c = (λ i. first_bad (f i) (o i) (c i)) ∙ sym (bad_is text)
 
 -- the first line stands
 module _ (c : Else-not-has_bytes) where
@@ -27,7 +27,7 @@ module _ (c : Else-not-has_bytes) where
 
 -- the second stands too
 third : (c : After-is_count_line) (b : Bool) → c.is_count_line.result ≡ b
-    → first_of true true b ≡ bad_header_line (start (goal.at.After-is_count_line c).Else-not-has_bytes).args.text.now
+    → first_bad true true b ≡ bad_header_line (start (goal.at.After-is_count_line c).Else-not-has_bytes).args.text.now
 third c b r =
     let e = c in
     let f = e in
