@@ -2,26 +2,24 @@
 -- Assumes nothing.
 use mathlib.Core.Path.{◌≡◌, refl, sym, ap, ap₂, ◌∙◌}
 use mathlib.Core.Bool.{Bool, true, false, not, ◌&&◌, cond}
-use mathlib.Core.List.{List, [], ◌∷◌, ◌++◌}
+use mathlib.Core.List.{List, ◌++◌}
 use Prim.Native.Nat.{ℕ, suc, ◌+◌, ◌-◌, ◌*◌, ◌≤◌}
 use native.Mathlib.Omega.{arith}
 use lib.ListN.{length, take, drop, length-drop, take-append-drop}
 use lib.Seq.{drop-drop}
 use borrow.Rule.Slice.PartMut.{mid_of, put_mid}
-use Rattle.refusal.specs.Refusals.{first_refusal}
+use Rattle.std.specs.Prelude.{Result, Ok, Err}
+use Rattle.refusal.specs.declared.Refusal.{Refusal}
+use Rattle.refusal.specs.declared.Refusal.TheVariants.{OutOfRange, InvalidOrder}
 use Rattle.order.specs.Order.{is_order}
 use Rattle.sets.specs.Sets.{sendable}
 use Rattle.sets.specs.declared.ParameterSet.{ParameterSet}
 use Rattle.frame.specs.Layout.{frame}
 use Rattle.frame.specs.Packing.{set_refusal, pack_answer, pack_writes}
-use Rattle.frame.specs.declared.PackAnswer.{PackAnswer}
-use Rattle.frame.specs.declared.PackAnswer.TheVariants.{Packed, Refused}
 use Rattle.frame.proofs.Answers.{tested_owes}
 use Rattle.set_bytes.specs.SetBytes.{set_in, read_answer}
-use Rattle.set_bytes.specs.declared.SetAnswer.{SetAnswer}
-use Rattle.set_bytes.specs.declared.SetAnswer.TheVariants as form
 use Rattle.set_frames.specs.Sending.{bytes_at, taken, frame_of, bytes_refusal, set_answer, set_writes}
-use Rattle.set_bytes.proofs.SetBytes.{answer_taken, answer_refused}
+use Rattle.set_bytes.proofs.SetBytes.{answer_is as read_answer_is, answer_taken, answer_refused}
 use Rattle.set_frames.proofs.Tails.{tail_is, tail_back}
 
 module _ (ord input : List ℕ) (sync : Bool) (k : ℕ) (out : List ℕ) where
@@ -29,35 +27,36 @@ module _ (ord input : List ℕ) (sync : Bool) (k : ℕ) (out : List ℕ) where
   bytes = bytes_at input k
 
   -- what a call answers and leaves
-  abbrev Owed : PackAnswer → List ℕ → Type 0
+  abbrev Owed : Result Bool Refusal → List ℕ → Type 0
   Owed answer after = (answer ≡ set_answer ord bytes sync) × (after ≡ set_writes ord bytes sync k out)
 
   -- by whether the bytes are taken
   pub taken_owes : (b : Bool) → taken ord bytes ≡ b
-      → Owed (cond b (Packed (not sync)) (Refused (bytes_refusal ord bytes))) (cond b (take (7 * k) out ++ (frame_of ord bytes sync ++ drop (7 * suc k) out)) out)
+      → Owed (cond b (Ok (not sync)) (Err (bytes_refusal ord bytes))) (cond b (take (7 * k) out ++ (frame_of ord bytes sync ++ drop (7 * suc k) out)) out)
   unfolding set_answer set_writes
   taken_owes b e = (
-    ap (λ (t : Bool). cond t (Packed (not sync)) (Refused (bytes_refusal ord bytes))) (sym e),
+    ap (λ (t : Bool). cond t (Ok (not sync)) (Err (bytes_refusal ord bytes))) (sym e),
     ap (λ (t : Bool). cond t (take (7 * k) out ++ (frame_of ord bytes sync ++ drop (7 * suc k) out)) out) (sym e),
   )
 
   -- the bytes that are read: from 11 k on up to 11 k + 11
-  module _ (x : SetAnswer) (r : x ≡ read_answer (take (11 * k + 11 - 11 * k) (drop (11 * k) input))) where
+  module _ (x : Result ParameterSet Refusal) (r : x ≡ read_answer (take (11 * k + 11 - 11 * k) (drop (11 * k) input))) where
     read_is : read_answer bytes ≡ x
     read_is =
         let n : 11 * k + 11 - 11 * k ≡ 11 = omega arith in
         sym (r ∙ ap (λ (m : ℕ). read_answer (take m (drop (11 * k) input))) n)
 
     -- they are those of no set
-    pub form_owes : (n : ℕ) → x ≡ form.Refused n → Owed (Refused 5) out
+    pub form_owes : (f : Refusal) → x ≡ Err f → Owed (Err f) out
     unfolding taken
-    form_owes n e =
-        let none = answer_refused bytes n (read_is ∙ e) in
+    form_owes f e =
+        let none = answer_refused bytes f (read_is ∙ e) in
+        let same : f ≡ OutOfRange = cc (read_is, e, read_answer_is bytes false none) in
         let o = taken_owes false (ap (λ (b : Bool). b && is_order ord && sendable (set_in bytes)) none) in
-        (ap (λ (b : Bool). Refused (cond b (set_refusal ord) 5)) (sym none) ∙ o.0, o.1)
+        (ap Err same ∙ ap (λ (b : Bool). Err (cond b (set_refusal ord) OutOfRange)) (sym none) ∙ o.0, o.1)
 
     -- they are those of a set, which is packed into the tail
-    module _ (set : ParameterSet) (e : x ≡ form.Set set) (room : 7 * suc k ≤ length out) (answer : PackAnswer) (ys : List ℕ)
+    module _ (set : ParameterSet) (e : x ≡ Ok set) (room : 7 * suc k ≤ length out) (answer : Result Bool Refusal) (ys : List ℕ)
         (p : let lent = mid_of (7 * k) (length out - 7 * k) out in (answer ≡ pack_answer ord set sync (length lent)) × (ys ≡ pack_writes ord set sync lent)) where
       abbrev tail : List ℕ
       tail = drop (7 * k) out
@@ -87,21 +86,16 @@ module _ (ord input : List ℕ) (sync : Bool) (k : ℕ) (out : List ℕ) where
           let rest : drop 7 tail ≡ drop (7 * suc k) out = drop-drop 7 (7 * k) out ∙ ap (λ (n : ℕ). drop n out) n in
           ap₂ (λ (s : ParameterSet) (l : List ℕ). frame ord s sync ++ l) (sym set_is) rest
 
-      -- what refuses it, by whether the list is an order
-      number_is : (a : Bool) → is_order ord ≡ a → first_refusal ((not a, 10) ∷ (true, 5) ∷ []) ≡ bytes_refusal ord bytes
-      number_is a o =
-          let found = (answer_taken bytes set (read_is ∙ e)).0 in
-          λ i. cond (sym found i) (first_refusal ((not (sym o i), 10) ∷ (true, 5) ∷ [])) 5
-
       abbrev after : List ℕ
       after = put_mid (7 * k) (length out - 7 * k) out ys
 
-      -- it is refused
-      refused_owes : (n : ℕ) → taken ord bytes ≡ false → n ≡ bytes_refusal ord bytes
-          → (Refused n ≡ pack_answer ord set sync (length tail)) × (tail ≡ pack_writes ord set sync tail) → Owed answer after
-      refused_owes n t m q =
-          let o = taken_owes false t in (
-            answer_is ∙ sym q.0 ∙ ap (λ (n : ℕ). Refused n) m ∙ o.0,
+      -- it is refused, by whether the list is an order
+      refused_owes : (a : Bool) → is_order ord ≡ a → taken ord bytes ≡ false
+          → (Err (cond a OutOfRange InvalidOrder) ≡ pack_answer ord set sync (length tail)) × (tail ≡ pack_writes ord set sync tail) → Owed answer after
+      refused_owes a f t q =
+          let o = taken_owes false t in
+          let found = (answer_taken bytes set (read_is ∙ e)).0 in (
+            answer_is ∙ sym q.0 ∙ (λ i. Err (cond (sym found i) (cond (sym f i) OutOfRange InvalidOrder) OutOfRange)) ∙ o.0,
             after_is ∙ ap (λ (l : List ℕ). take (7 * k) out ++ l) (sym q.1) ∙ take-append-drop (7 * k) out ∙ o.1,
           )
 
@@ -113,5 +107,5 @@ module _ (ord input : List ℕ) (sync : Bool) (k : ℕ) (out : List ℕ) where
               let o = taken_owes true (taken_is ∙ λ i. f i && t i) in
               let q = tested_owes ord set sync tail tail_room true true f t in
               (answer_is ∙ sym q.0 ∙ o.0, after_is ∙ ap (λ (l : List ℕ). take (7 * k) out ++ l) (sym q.1 ∙ frame_is) ∙ o.1)
-          go true false f t = refused_owes 5 (taken_is ∙ λ i. f i && t i) (number_is true f) (tested_owes ord set sync tail tail_room true false f t)
-          go false b f t = refused_owes 10 (taken_is ∙ λ i. f i && t i) (number_is false f) (tested_owes ord set sync tail tail_room false b f t)
+          go true false f t = refused_owes true f (taken_is ∙ λ i. f i && t i) (tested_owes ord set sync tail tail_room true false f t)
+          go false b f t = refused_owes false f (taken_is ∙ λ i. f i && t i) (tested_owes ord set sync tail tail_room false b f t)

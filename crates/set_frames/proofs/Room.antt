@@ -7,24 +7,26 @@ use native.Mathlib.Omega.{arith}
 use lib.ListN.{length, drop, length-append}
 use borrow.Author.Tests.{le-ltb}
 use Rattle.bits.specs.Lists.{written_unless}
-use Rattle.set_frames.specs.Sending.{sets_in, sent, frames_refusal, frames_unless, frames_answer, frames_writes}
-use Rattle.set_frames.specs.declared.FramesAnswer.TheVariants.{Packed, Refused}
+use Rattle.std.specs.Prelude.{Option, None, Ok, Err}
+use Rattle.refusal.specs.Refusals.{unless}
+use Rattle.refusal.specs.declared.Refusal.{Refusal}
+use Rattle.set_frames.specs.Sending.{sets_in, sent, frames_refusal, frames_answer, frames_writes}
 
 module _ (ord bytes out : List ℕ) (h : 7 * sets_in bytes ≤ length out) where
-  roomy : frames_refusal bytes (length out) ≡ 0
+  roomy : frames_refusal bytes (length out) ≡ None
   roomy = rw (le-ltb (length out / 7) (sets_in bytes) (omega arith)) refl
 
   -- what is answered and left
-  answered : frames_answer ord bytes (length out) ≡ Packed (length (sent ord bytes))
+  answered : frames_answer ord bytes (length out) ≡ Ok (length (sent ord bytes))
   unfolding frames_answer
-  answered = ap (λ (n : ℕ). frames_unless n (length (sent ord bytes))) roomy
+  answered = ap (λ (n : Option Refusal). unless n (length (sent ord bytes))) roomy
 
   written : frames_writes ord bytes out ≡ sent ord bytes ++ drop (length (sent ord bytes)) out
   unfolding frames_writes
-  written = ap (λ (n : ℕ). written_unless n (length (sent ord bytes)) (sent ord bytes) out) roomy
+  written = ap (λ (n : Option Refusal). written_unless n (length (sent ord bytes)) (sent ord bytes) out) roomy
 
   -- an end that is answered is that of the frames
-  pub packed_is : (end : ℕ) (after : List ℕ) → frames_answer ord bytes (length out) ≡ Packed end → after ≡ frames_writes ord bytes out
+  pub packed_is : (end : ℕ) (after : List ℕ) → frames_answer ord bytes (length out) ≡ Ok end → after ≡ frames_writes ord bytes out
       → (end ≡ length (sent ord bytes)) × (end ≤ length after) × (after ≡ sent ord bytes ++ drop end out)
   packed_is end after e w =
       let same : end ≡ length (sent ord bytes) = cc (answered, e) in
@@ -32,5 +34,5 @@ module _ (ord bytes out : List ℕ) (h : 7 * sets_in bytes ≤ length out) where
       (same, omega (arith, same, ap length all ∙ length-append (sent ord bytes) (drop end out)), all)
 
   -- nothing is refused
-  pub not_refused : (n : ℕ) → frames_answer ord bytes (length out) ≡ Refused n → ⊥
-  not_refused n e = let z : ◌≡◌ {A = ℕ} 0 1 = cc (answered, e) in omega arith
+  pub not_refused : (f : Refusal) → frames_answer ord bytes (length out) ≡ Err f → ⊥
+  not_refused f e = let z : ◌≡◌ {A = ℕ} 0 1 = cc (answered, e) in omega arith

@@ -9,8 +9,8 @@ use lib.ListN.{length, take, drop, length-append, length-drop, take-append-drop}
 use lib.Seq.{length-take-le, take_at, drop_at, drop-drop}
 use Rattle.order.proofs.Frames.{frame_length}
 use Rattle.frame.specs.Layout.{logical_of}
-use Rattle.frame.specs.declared.PackAnswer.{PackAnswer}
-use Rattle.frame.specs.declared.PackAnswer.TheVariants.{Packed, Refused}
+use Rattle.std.specs.Prelude.{Result, Ok, Err}
+use Rattle.refusal.specs.declared.Refusal.{Refusal}
 use Rattle.set_bytes.specs.SetBytes.{set_in}
 use Rattle.set_frames.specs.Sending.{sets_in, bytes_at, taken, frame_of, sent_from, sent, bytes_refusal, set_answer, set_writes}
 use Rattle.set_frames.proofs.Packing.{taken_owes}
@@ -74,29 +74,29 @@ module _ (ord bytes out₀ : List ℕ) (sync : Bool) (k : ℕ) (out : List ℕ) 
         (size, ap (λ (l : List ℕ). l ++ next) front ∙ all, back ∙ kept)
 
   -- one turn: what packing set k answers, and what it leaves
-  module _ (more : k < sets_in bytes) (room : 7 * sets_in bytes ≤ length out₀) (answer : PackAnswer) (after : List ℕ)
+  module _ (more : k < sets_in bytes) (room : 7 * sets_in bytes ≤ length out₀) (answer : Result Bool Refusal) (after : List ℕ)
       (p : (answer ≡ set_answer ord (bytes_at bytes k) sync) × (after ≡ set_writes ord (bytes_at bytes k) sync k out)) where
     -- by whether the bytes are taken
     turn_is : (b : Bool) → taken ord (bytes_at bytes k) ≡ b
-        → (answer ≡ cond b (Packed (not sync)) (Refused (bytes_refusal ord (bytes_at bytes k)))) × (after ≡ cond b (take (7 * k) out ++ (frame_of ord (bytes_at bytes k) sync ++ drop (7 * suc k) out)) out)
+        → (answer ≡ cond b (Ok (not sync)) (Err (bytes_refusal ord (bytes_at bytes k)))) × (after ≡ cond b (take (7 * k) out ++ (frame_of ord (bytes_at bytes k) sync ++ drop (7 * suc k) out)) out)
     turn_is b e = let o = taken_owes ord bytes sync k out b e in (p.0 ∙ sym o.0, p.1 ∙ sym o.1)
 
     -- a frame is packed: one more stands in front
-    pub packed_owes : (next : Bool) → answer ≡ Packed next → SoFar ord bytes out₀ next (suc k) after
+    pub packed_owes : (next : Bool) → answer ≡ Ok next → SoFar ord bytes out₀ next (suc k) after
     packed_owes next e = go (taken ord (bytes_at bytes k)) refl
       where
         go : (b : Bool) → taken ord (bytes_at bytes k) ≡ b → SoFar ord bytes out₀ next (suc k) after
         go true t =
-            let same : Packed (not sync) ≡ Packed next = sym (turn_is true t).0 ∙ e in
+            let same = sym (turn_is true t).0 ∙ e in
             let bit : not sync ≡ next = cc in
             let le : 7 * suc k ≤ length out = omega (arith, s.0) in
             rw bit at (frames_more more t after (turn_is true t).1 le)
-        go false t = let same : Refused (bytes_refusal ord (bytes_at bytes k)) ≡ Packed next = sym (turn_is false t).0 ∙ e in let z : ◌≡◌ {A = ℕ} 0 1 = cc in absurd (omega arith)
+        go false t = let same = sym (turn_is false t).0 ∙ e in let z : ◌≡◌ {A = ℕ} 0 1 = cc in absurd (omega arith)
 
     -- set k is refused: the frames end before it
-    pub refused_owes : (n : ℕ) → answer ≡ Refused n → Owed ord bytes out₀ (7 * k) after
-    refused_owes n e = go (taken ord (bytes_at bytes k)) refl
+    pub refused_owes : (f : Refusal) → answer ≡ Err f → Owed ord bytes out₀ (7 * k) after
+    refused_owes f e = go (taken ord (bytes_at bytes k)) refl
       where
         go : (b : Bool) → taken ord (bytes_at bytes k) ≡ b → Owed ord bytes out₀ (7 * k) after
-        go true t = let same : Packed (not sync) ≡ Refused n = sym (turn_is true t).0 ∙ e in let z : ◌≡◌ {A = ℕ} 0 1 = cc in absurd (omega arith)
+        go true t = let same = sym (turn_is true t).0 ∙ e in let z : ◌≡◌ {A = ℕ} 0 1 = cc in absurd (omega arith)
         go false t = rw (turn_is false t).1 (end_owes (rest_is more false t))

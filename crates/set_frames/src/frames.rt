@@ -2,21 +2,22 @@
 ghost use Rattle.std.specs.Prelude.{◌≡◌, ◌++◌, ◌*◌, ◌≤◌, ◌<◌, length, drop};
 ghost use Rattle.set_frames.specs.Sending.{sets_in, bytes_at, set_answer, set_writes, sent, frames_answer, frames_writes};
 
-use crate::FramesAnswer;
-use frame::PackAnswer;
-use set_bytes::SetAnswer;
+use refusal::Refusal;
 
-// The frame of set k to its place in `out`. Refused: 5, bytes that are not those of a set that a sender takes; 10, a list that
-// is no order.
-fn pack_set(bytes: &[u8], k: usize, sync: bool, order: &[u8], out: &mut [u8]) -> PackAnswer
+// The frame of set k to its place in `out`, and the next sync bit. Refused: bytes that are not those of a set that a sender
+// takes; a list that is no order.
+fn pack_set(
+    bytes: &[u8],
+    k: usize,
+    sync: bool,
+    order: &[u8],
+    out: &mut [u8],
+) -> Result<bool, Refusal>
     requires { (k < sets_in bytes.now) × (7 * sets_in bytes.now ≤ length out.old) }
     ensures answer { result ≡ set_answer order.now (bytes_at bytes.now k) sync }
     ensures written { out.new ≡ set_writes order.now (bytes_at bytes.now k) sync k out.old }
 {
-    let answer = set_bytes::read(&bytes[11 * k..11 * k + 11]);
-    let SetAnswer::Set(set) = answer else {
-        return PackAnswer::Refused(5);
-    };
+    let set = set_bytes::read(&bytes[11 * k..11 * k + 11])?;
     frame::pack(set, sync, order, &mut out[7 * k..])
 }
 
@@ -31,8 +32,7 @@ fn pack_all(bytes: &[u8], order: &[u8], out: &mut [u8]) -> usize
     let mut sync = frame::fresh_sync();
     let count = bytes.len() / 11;
     for k in 0..count {
-        let answer = pack_set(bytes, k, sync, order, out);
-        let PackAnswer::Packed(next) = answer else {
+        let Ok(next) = pack_set(bytes, k, sync, order, out) else {
             return 7 * k;
         };
         sync = next;
@@ -40,13 +40,13 @@ fn pack_all(bytes: &[u8], order: &[u8], out: &mut [u8]) -> usize
     7 * count
 }
 
-// The same, for any output. Refused: 1, an output that has room for fewer frames than there are sets.
-pub fn pack_sets(bytes: &[u8], order: &[u8], out: &mut [u8]) -> FramesAnswer
+// The same, for any output. Refused: an output that has room for fewer frames than there are sets.
+pub fn pack_sets(bytes: &[u8], order: &[u8], out: &mut [u8]) -> Result<usize, Refusal>
     ensures answer { result ≡ frames_answer order.now bytes.now (length out.old) }
     ensures written { out.new ≡ frames_writes order.now bytes.now out.old }
 {
     if out.len() / 7 < bytes.len() / 11 {
-        return FramesAnswer::Refused(1);
+        return Err(Refusal::ShortOutput);
     }
-    FramesAnswer::Packed(pack_all(bytes, order, out))
+    Ok(pack_all(bytes, order, out))
 }

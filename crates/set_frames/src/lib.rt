@@ -4,10 +4,3 @@
 mod frames;
 
 pub use frames::pack_sets;
-
-// Where the frames end, or the refusal.
-#[derive(Clone, Copy)]
-pub enum FramesAnswer {
-    Packed(usize),
-    Refused(u8),
-}

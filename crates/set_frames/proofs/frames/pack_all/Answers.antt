@@ -26,7 +26,7 @@ returns-in_default c =
     let a = turn.args in
     let le : 7 * L.k ≤ length L.out = omega (arith, L.invariant) in
     let p = refused_owes a.order.now a.bytes.now a.out.now L.sync L.k L.out L.invariant.3 le turn.loop-k-test.true L.invariant.2 _ _
-    (packed.pack_set-answer.ensures.answer, packed.pack_set-answer.ensures.written) _ c.in_default.is in record { end = p.0; size = p.1.0; written = p.1.1 }
+    (packed.pack_set.ensures.answer, packed.pack_set.ensures.written) _ c.in_default.is in record { end = p.0; size = p.1.0; written = p.1.1 }
 
 pub loop-k-preserved : goal.loop-k-preserved
 loop-k-preserved c =
@@ -36,7 +36,7 @@ loop-k-preserved c =
     let a = turn.args in
     let le : 7 * L.k ≤ length L.out = omega (arith, L.invariant) in
     let more = packed_owes a.order.now a.bytes.now a.out.now L.sync L.k L.out L.invariant.3 le turn.loop-k-test.true L.invariant.2 _ _
-    (packed.pack_set-answer.ensures.answer, packed.pack_set-answer.ensures.written) _ c.in-Packed.is in
+    (packed.pack_set.ensures.answer, packed.pack_set.ensures.written) _ c.in-Ok.is in
     rw add-one (L.invariant.0, omega arith, L.invariant.2, more)
 
 pub returns : goal.returns

@@ -2,21 +2,20 @@
 use Prim.Native.Nat.{suc, ◌*◌, ◌≤◌}
 use native.Mathlib.Omega.{arith}
 use lib.ListN.{length}
+use Rattle.std.proofs.lemmas.Result.{err_from_is_err_and}
 use Rattle.set_frames.proofs.Packing.{form_owes, pack_owes}
 use Rattle.set_frames.proofs.frames.pack_set.Goals as goal
 
-pub returns-in_default : goal.returns-in_default
-returns-in_default c =
-    let read = c in
-    let a = read.args in
-    let p = form_owes a.order.now a.bytes.now a.sync a.k a.out.now _ read.read-answer.ensures _ c.in_default.is in record { answer = p.0; written = p.1 }
+pub returns-in_err-set : goal.returns-in_err-set
+returns-in_err-set c =
+    let a = c.args in
+    let p = err_from_is_err_and c.from_residual.result c.from_residual.ensures.1 in
+    let o = form_owes a.order.now a.bytes.now a.sync a.k a.out.now _ c.read.ensures _ c.in_err-set.was in
+    record { answer = rw (p.1, p.2) o.0; written = o.1 }
 
 pub returns : goal.returns
 returns c =
-    let packed = c in
-    let answer = packed in
-    let read = answer in
-    let start = read in
-    let a = start.args in
-    let room : 7 * suc a.k ≤ length a.out.now = omega (arith, start.requires) in
-    let p = pack_owes a.order.now a.bytes.now a.sync a.k a.out.now _ read.read-answer.ensures _ answer.in-Set.is room _ _ (packed.pack.ensures.answer, packed.pack.ensures.written) in record { answer = p.0; written = p.1 }
+    let a = c.args in
+    let room : 7 * suc a.k ≤ length a.out.now = omega (arith, c.requires) in
+    let p = pack_owes a.order.now a.bytes.now a.sync a.k a.out.now _ c.read.ensures _ c.in_ok-set.was room _ _ (c.pack.ensures.answer, c.pack.ensures.written) in
+    record { answer = p.0; written = p.1 }

@@ -5,24 +5,27 @@ use Prim.Native.Nat.{ℕ, ◌/◌}
 use lib.ListN.{length, drop}
 use borrow.Author.Tests.{lt-ltb, le-ltb}
 use Rattle.bits.specs.Lists.{written_unless}
-use Rattle.set_frames.specs.Sending.{sets_in, sent, frames_refusal, frames_unless, frames_answer, frames_writes}
-use Rattle.set_frames.specs.declared.FramesAnswer.TheVariants.{Packed}
+use Rattle.std.specs.Prelude.{Option, None, Some, Ok}
+use Rattle.refusal.specs.Refusals.{unless}
+use Rattle.refusal.specs.declared.Refusal.{Refusal}
+use Rattle.refusal.specs.declared.Refusal.TheVariants.{ShortOutput}
+use Rattle.set_frames.specs.Sending.{sets_in, sent, frames_refusal, frames_answer, frames_writes}
 use Rattle.set_frames.proofs.frames.pack_sets.Goals as goal
 
--- what is owed by the number of the refusal
-owes : (ord bytes out : List ℕ) (n : ℕ) → frames_refusal bytes (length out) ≡ n
-    → (frames_unless n (length (sent ord bytes)) ≡ frames_answer ord bytes (length out))
+-- what is owed by the refusal
+owes : (ord bytes out : List ℕ) (n : Option Refusal) → frames_refusal bytes (length out) ≡ n
+    → (unless n (length (sent ord bytes)) ≡ frames_answer ord bytes (length out))
     × (written_unless n (length (sent ord bytes)) (sent ord bytes) out ≡ frames_writes ord bytes out)
 unfolding frames_answer frames_writes
 owes ord bytes out n e = (
-  ap (λ (m : ℕ). frames_unless m (length (sent ord bytes))) (sym e),
-  ap (λ (m : ℕ). written_unless m (length (sent ord bytes)) (sent ord bytes) out) (sym e),
+  ap (λ (m : Option Refusal). unless m (length (sent ord bytes))) (sym e),
+  ap (λ (m : Option Refusal). written_unless m (length (sent ord bytes)) (sent ord bytes) out) (sym e),
 )
 
 pub returns-then-out-bytes : goal.returns-then-out-bytes
 returns-then-out-bytes c =
     let a = c.args in
-    let p = owes a.order.now a.bytes.now a.out.now 1
+    let p = owes a.order.now a.bytes.now a.out.now (Some ShortOutput)
     (rw (lt-ltb (length a.out.now / 7) (sets_in a.bytes.now) c.if-out-bytes.true) refl) in record { answer = p.0; written = p.1 }
 
 pub returns : goal.returns
@@ -30,4 +33,4 @@ returns c =
     let packed = c in
     let a = packed.args in
     let e = packed.pack_all.ensures in
-    let o = owes a.order.now a.bytes.now a.out.now 0 (rw (le-ltb (length a.out.now / 7) (sets_in a.bytes.now) packed.if-out-bytes.false) refl) in record { answer = ap Packed e.end ∙ o.0; written = e.written ∙ ap (λ (n : ℕ). sent a.order.now a.bytes.now ++ drop n a.out.now) e.end ∙ o.1 }
+    let o = owes a.order.now a.bytes.now a.out.now None (rw (le-ltb (length a.out.now / 7) (sets_in a.bytes.now) packed.if-out-bytes.false) refl) in record { answer = ap Ok e.end ∙ o.0; written = e.written ∙ ap (λ (n : ℕ). sent a.order.now a.bytes.now ++ drop n a.out.now) e.end ∙ o.1 }
