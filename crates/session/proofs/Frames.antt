@@ -5,12 +5,13 @@ use mathlib.Core.List.{List, [], ◌∷◌, ◌++◌}
 use Prim.Native.Nat.{ℕ, zero, suc, ◌+◌, ◌*◌, ◌/◌, ◌%◌, ◌≤◌, ◌<◌}
 use native.Mathlib.Omega.{arith}
 use lib.Dec.{eqb, leb}
+use Rattle.std.specs.Simd.{first_chunks}
 use lib.ListN.{length, take, drop, length-append, length-drop}
 use lib.Seq.{length-take-le, take_all, take_at, take-add, drop-drop, drop-append-add}
-use borrow.Author.Tests.{eqb-true, leb-true}
+use borrow.Author.Tests.{eqb-true, leb-true, eq-eqb, le-leb}
 use Rattle.bits.specs.Bits.{cut}
 use Rattle.bits.specs.Lists.{Every}
-use Rattle.bits.proofs.Cut.{cut_length, cut_ext, cut_append, cut_suc}
+use Rattle.bits.proofs.Cut.{cut_length, cut_ext, cut_suc}
 use Rattle.session.specs.Format.{most_frames}
 use Rattle.session.specs.Writing.{frame_at, frames_of, joined, is_whole}
 use Rattle.session.proofs.Elements.{every_take, every_drop, every_cut}
@@ -25,6 +26,21 @@ pub whole_parts : (bytes : List ℕ) → is_whole bytes ≡ true → (length byt
 whole_parts bytes e =
     let p = (and-eq-true_iff (eqb (length bytes % 7) 0) (leb (length bytes / 7) most_frames)).0 e in
     (eqb-true (length bytes % 7) 0 p.0, leb-true (length bytes / 7) most_frames p.1)
+
+-- and only such bytes are
+pub whole_is : (bytes : List ℕ) → length bytes % 7 ≡ 0 → length bytes / 7 ≤ most_frames → is_whole bytes ≡ true
+whole_is bytes r n = (and-eq-true_iff (eqb (length bytes % 7) 0) (leb (length bytes / 7) most_frames)).1 (eq-eqb _ 0 r, le-leb _ most_frames n)
+
+-- std's chunks of seven bytes are the frames
+chunks_from : (bytes : List ℕ) (i n : ℕ) → first_chunks 7 n (drop (7 * i) bytes) ≡ cut (frame_at bytes) i n
+chunks_from bytes i zero = refl
+chunks_from bytes i (suc n) =
+    let rest : drop 7 (drop (7 * i) bytes) ≡ drop (7 * suc i) bytes = drop-drop 7 (7 * i) bytes ∙ ap (λ (k : ℕ). drop k bytes) (omega arith) in
+    ap (λ (l : List (List ℕ)). frame_at bytes i ∷ l) (ap (first_chunks 7 n) rest ∙ chunks_from bytes (suc i) n)
+
+pub chunks_are : (bytes : List ℕ) → first_chunks 7 (length bytes / 7) bytes ≡ frames_of bytes
+unfolding frames_of
+chunks_are bytes = chunks_from bytes 0 (length bytes / 7)
 
 -- a whole frame has seven bytes
 pub frame_length : (bytes : List ℕ) (k : ℕ) → k < length bytes / 7 → length (frame_at bytes k) ≡ 7
@@ -45,12 +61,6 @@ unfolding frames_of
 frames_seven bytes h =
     every_cut (λ f. (length f ≡ 7) × Every (λ b. b < 256) f) (frame_at bytes) 0 (length bytes / 7)
     (λ j a b. (frame_length bytes j (omega arith), frame_bytes bytes j h))
-
--- one frame more
-pub frames_more : (bytes : List ℕ) (k : ℕ) → cut (frame_at bytes) 0 (k + 1) ≡ cut (frame_at bytes) 0 k ++ (frame_at bytes k ∷ [])
-frames_more bytes k =
-    let e : 0 + k ≡ k = omega arith in
-    cut_append (frame_at bytes) 0 k 1 ∙ ap (λ (j : ℕ). cut (frame_at bytes) 0 k ++ (frame_at bytes j ∷ [])) e
 
 -- the bytes of n frames from frame i on
 joined_cut : (bytes : List ℕ) (i n : ℕ) → joined (cut (frame_at bytes) i n) ≡ take (7 * n) (drop (7 * i) bytes)

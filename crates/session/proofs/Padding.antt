@@ -1,17 +1,16 @@
 -- Padding bits: of a frame by its last byte, of frames one after the other, and of the frames that are not refused. Assumes nothing.
 use mathlib.Core.Path.{◌≡◌, refl, sym, ap, ◌∙◌}
-use mathlib.Core.Bool.{Bool, true, false, not, ◌||◌, or_assoc, or-false, or-true}
-use mathlib.Core.List.{List, [], ◌∷◌, ◌++◌}
-use Prim.Native.Nat.{ℕ, ◌+◌, ◌-◌, ◌%◌, ◌<◌}
-use native.Mathlib.Omega.{arith}
+use mathlib.Core.Bool.{Bool, true, false, not, ◌||◌}
+use mathlib.Core.List.{List, [], ◌∷◌}
+use Prim.Native.Nat.{ℕ, ◌%◌}
 use lib.Dec.{eqb}
 use lib.ListN.{length, get_or}
 use borrow.Author.Tests.{eq-eqb, eqb-true}
-use Rattle.bits.specs.Bits.{ones, value, cut}
+use Rattle.bits.specs.Bits.{ones, value}
 use Rattle.std.specs.Prelude.{None}
+use Rattle.std.specs.List.{list_any}
 use Rattle.refusal.specs.Refusals.{first_refusal}
 use Rattle.refusal.specs.declared.Refusal.TheVariants.{FrameLength, PaddingBits, InvalidOrder}
-use Rattle.bits.proofs.Cut.{cut_append}
 use Rattle.bits.proofs.Tests.{true_T}
 use Rattle.order.specs.Order.{is_order, default_order, bit_at, frame_refusal}
 use Rattle.order.proofs.Bytes.{padding_is}
@@ -28,28 +27,10 @@ padded_is frame = ap not (go (bit_at frame 54) (bit_at frame 55)) ∙ ap (λ (n 
     go false true = refl
     go false false = refl
 
--- of two lists of frames one has padding bits
-padded_append : (xs ys : List (List ℕ)) → any_padded (xs ++ ys) ≡ any_padded xs || any_padded ys
-padded_append [] ys = refl
-padded_append (f ∷ xs) ys = ap (λ (b : Bool). is_padded f || b) (padded_append xs ys) ∙ sym (or_assoc (is_padded f) (any_padded xs) (any_padded ys))
-
--- one frame more
-pub padded_more : (g : ℕ → List ℕ) (k : ℕ) → any_padded (cut g 0 (k + 1)) ≡ any_padded (cut g 0 k) || is_padded (g k)
-padded_more g k =
-    let e : 0 + k ≡ k = omega arith in
-    ap any_padded (cut_append g 0 k 1)
-    ∙ padded_append (cut g 0 k) (g (0 + k) ∷ [])
-    ∙ ap (λ (b : Bool). any_padded (cut g 0 k) || b) (or-false (is_padded (g (0 + k))))
-    ∙ ap (λ (j : ℕ). any_padded (cut g 0 k) || is_padded (g j)) e
-
--- one of n frames has them
-pub padded_found : (g : ℕ → List ℕ) (k n : ℕ) → k < n → is_padded (g k) ≡ true → any_padded (cut g 0 n) ≡ true
-padded_found g k n h p =
-    let e : n ≡ k + 1 + (n - (k + 1)) = omega arith in
-    ap (λ (m : ℕ). any_padded (cut g 0 m)) e
-    ∙ ap any_padded (cut_append g 0 (k + 1) (n - (k + 1)))
-    ∙ padded_append (cut g 0 (k + 1)) (cut g (0 + (k + 1)) (n - (k + 1)))
-    ∙ ap (λ (b : Bool). b || any_padded (cut g (0 + (k + 1)) (n - (k + 1)))) (padded_more g k ∙ ap (λ (b : Bool). any_padded (cut g 0 k) || b) p ∙ or-true (any_padded (cut g 0 k)))
+-- so have frames where one has such a byte
+pub any_padded_is : (fs : List (List ℕ)) → list_any (λ f. not (eqb (get_or f 6 0 % 4) 0)) fs ≡ any_padded fs
+any_padded_is [] = refl
+any_padded_is (f ∷ fs) = λ i. sym (padded_is f) i || any_padded_is fs i
 
 -- what refuses a frame in the default order: its length and its padding bits
 refusal_is : (f : List ℕ) (a p : Bool) → eqb (length f) 7 ≡ a → is_padded f ≡ p → frame_refusal default_order f ≡ first_refusal ((not a, FrameLength) ∷ (false, InvalidOrder) ∷ (p, PaddingBits) ∷ [])

@@ -6,13 +6,12 @@ use native.Mathlib.Omega.{arith}
 use native.Mathlib.Numerals.{add-one}
 use lib.ListN.{length, get_or, take, length-append}
 use lib.Seq.{take-suc}
-use Rattle.bits.specs.Bits.{cut}
 use Rattle.bits.specs.Lists.{Every}
 use Rattle.text.specs.Text.{ascii, decimal}
 use Rattle.text.proofs.Decimals.{decimal_length}
 use Rattle.session.specs.Format.{count_line, hex_pair, hex_text, frame_line, frame_lines, header, session_text, most_frames, most_text}
-use Rattle.session.specs.Writing.{frame_at, frames_of, text_of}
-use Rattle.session.proofs.Frames.{frames_length, frames_sized, frames_more}
+use Rattle.session.specs.Writing.{frames_of, text_of}
+use Rattle.session.proofs.Frames.{frames_length, frames_sized}
 
 -- bytes after bytes
 hex_append : (xs ys : List ℕ) → hex_text (xs ++ ys) ≡ hex_text xs ++ hex_text ys
@@ -51,14 +50,10 @@ frame_lines_append (f ∷ xs) ys =
     ap (λ (l : List ℕ). frame_line f ++ l) (frame_lines_append xs ys) ∙ sym (append_assoc (frame_line f) (frame_lines xs) (frame_lines ys))
 
 -- one frame more
-pub frame_lines_more : (bytes : List ℕ) (k : ℕ) → frame_lines (cut (frame_at bytes) 0 (k + 1)) ≡ frame_lines (cut (frame_at bytes) 0 k) ++ frame_line (frame_at bytes k)
+pub frame_lines_more : (fs : List (List ℕ)) (k : ℕ) → k < length fs → frame_lines (take (k + 1) fs) ≡ frame_lines (take k fs) ++ frame_line (get_or fs k [])
 unfolding frame_lines
-frame_lines_more bytes k =
-    let before = cut (frame_at bytes) 0 k in
-    let f = frame_at bytes k in
-    ap frame_lines (frames_more bytes k)
-    ∙ frame_lines_append before (f ∷ [])
-    ∙ ap (λ (l : List ℕ). frame_lines before ++ l) (append-nil (frame_line f))
+frame_lines_more fs k h =
+    rw add-one (ap frame_lines (take-suc fs k [] h) ∙ frame_lines_append (take k fs) (get_or fs k [] ∷ []) ∙ ap (λ (l : List ℕ). frame_lines (take k fs) ++ l) (append-nil (frame_line (get_or fs k []))))
 
 -- the three lines have 30 bytes and the digits of the number
 pub header_length : (n : ℕ) → length (header n) ≡ 30 + length (decimal n)

@@ -1,26 +1,26 @@
 // The lines of frames.
-ghost use Rattle.std.specs.Prelude.{◌≡◌, ◌+◌, ◌*◌, ◌/◌, ◌≤◌, length};
+ghost use Rattle.std.specs.Prelude.{◌≡◌, ◌+◌, ◌*◌, ◌≤◌, length};
 ghost use Rattle.text.specs.Placing.{Put};
 ghost use Rattle.session.specs.Format.{hex_text, frame_line, frame_lines};
-ghost use Rattle.session.specs.Writing.{frames_of, any_padded};
+ghost use Rattle.session.specs.Writing.{any_padded};
 
 use crate::hex::write_pair;
 
 // The seven bytes of a frame in hexadecimal; where they end.
-fn write_digits(frame: &[u8], out: &mut [u8], at: usize) -> usize
-    requires { (length frame.now ≡ 7) × (at + 14 ≤ length out.old) }
+fn write_digits(frame: &[u8; 7], out: &mut [u8], at: usize) -> usize
+    requires { at + 14 ≤ length out.old }
     ensures { Put out.old at (hex_text frame.now) out.new result }
 {
     let mut end = at;
-    for i in 0..7 {
-        end = write_pair(frame[i], out, end);
+    for &b in frame {
+        end = write_pair(b, out, end);
     }
     end
 }
 
 // The line of a frame.
-fn write_line(frame: &[u8], out: &mut [u8], at: usize) -> usize
-    requires { (length frame.now ≡ 7) × (at + 17 ≤ length out.old) }
+fn write_line(frame: &[u8; 7], out: &mut [u8], at: usize) -> usize
+    requires { at + 17 ≤ length out.old }
     ensures { Put out.old at (frame_line frame.now) out.new result }
 {
     out[at] = b'f';
@@ -31,25 +31,20 @@ fn write_line(frame: &[u8], out: &mut [u8], at: usize) -> usize
 }
 
 // The lines of all frames.
-pub(crate) fn write_lines(frames: &[u8], out: &mut [u8], at: usize) -> usize
-    requires { at + 17 * (length frames.now / 7) ≤ length out.old }
-    ensures { Put out.old at (frame_lines (frames_of frames.now)) out.new result }
+pub(crate) fn write_lines(frames: &[[u8; 7]], out: &mut [u8], at: usize) -> usize
+    requires { at + 17 * length frames.now ≤ length out.old }
+    ensures { Put out.old at (frame_lines frames.now) out.new result }
 {
     let mut end = at;
-    for k in 0..frames.len() / 7 {
-        end = write_line(&frames[7 * k..7 * k + 7], out, end);
+    for frame in frames {
+        end = write_line(frame, out, end);
     }
     end
 }
 
 // Whether one of a frame's last two bits is set in any of the frames.
-pub(crate) fn has_padding(frames: &[u8]) -> bool
-    ensures { result ≡ any_padded (frames_of frames.now) }
+pub(crate) fn has_padding(frames: &[[u8; 7]]) -> bool
+    ensures { result ≡ any_padded frames.now }
 {
-    for k in 0..frames.len() / 7 {
-        if frames[7 * k + 6] % 4 != 0 {
-            return true;
-        }
-    }
-    false
+    frames.iter().any(|frame| frame[6] % 4 != 0)
 }

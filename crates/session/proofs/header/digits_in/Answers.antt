@@ -7,18 +7,18 @@ use Rattle.text.proofs.Decimals.{decimal_one, decimal_two}
 use Rattle.text.proofs.Pairs.{decimal_length_more, pair_length}
 use Rattle.session.proofs.header.digits_in.Goals as goal
 
-pub returns-then-n-lt10 : goal.returns-then-n-lt10
-returns-then-n-lt10 c = sym (ap length (decimal_one c.args.n c.if-n-lt10.true))
+pub returns-in-0-to-9 : goal.returns-in-0-to-9
+returns-in-0-to-9 c = sym (ap length (decimal_one c.args.n (omega arith)))
 
-pub returns-then-n-lt100 : goal.returns-then-n-lt100
-returns-then-n-lt100 c = sym (ap length (decimal_two c.args.n c.if-n-lt10.false c.if-n-lt100.true))
+pub returns-in-10-to-99 : goal.returns-in-10-to-99
+returns-in-10-to-99 c = sym (ap length (decimal_two c.args.n (omega arith) (omega arith)))
 
-pub returns-then-n-lt1000 : goal.returns-then-n-lt1000
-returns-then-n-lt1000 c =
+pub returns-in-100-to-999 : goal.returns-in-100-to-999
+returns-in-100-to-999 c =
     let n = c.args.n in
-    omega (arith, decimal_length_more n c.if-n-lt100.false, ap length (decimal_one (n / 100) (omega arith)))
+    omega (arith, decimal_length_more n (omega arith), ap length (decimal_one (n / 100) (omega arith)))
 
-pub returns : goal.returns
-returns c =
+pub returns-in_default : goal.returns-in_default
+returns-in_default c =
     let n = c.args.n in
-    omega (arith, decimal_length_more n c.if-n-lt100.false, pair_length n c.if-n-lt1000.false (omega arith))
+    omega (arith, decimal_length_more n (omega arith), pair_length n (omega arith) (omega arith))

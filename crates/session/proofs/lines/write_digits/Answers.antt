@@ -1,44 +1,21 @@
 -- `session::lines::write_digits` meets its contract: after i turns i bytes are written. Assumes nothing.
-use mathlib.Core.Path.{◌≡◌, refl, ◌∙◌}
-use mathlib.Core.List.{List}
-use Prim.Native.Nat.{ℕ, ◌*◌, ◌≤◌, ◌<◌}
 use native.Mathlib.Omega.{arith}
 use lib.ListN.{length, take, get_or}
-use lib.Seq.{take-length, length-take-le}
+use Prim.Native.Nat.{◌<◌}
 use Rattle.text.proofs.Puts.{put_none, put_append}
 use Rattle.session.specs.Format.{hex_text, hex_pair}
-use Rattle.session.proofs.Texts.{hex_more, hex_length}
+use Rattle.session.proofs.Texts.{hex_more}
 use Rattle.session.proofs.lines.write_digits.Goals as goal
 
--- i bytes have 2 i digits
-size : (frame : List ℕ) (i : ℕ) → i ≤ length frame → length (hex_text (take i frame)) ≡ 2 * i
-size frame i h = omega (arith, hex_length (take i frame), length-take-le i frame h)
-
-pub loop-i-init : goal.loop-i-init
+pub loop-b-init : goal.loop-b-init
 unfolding hex_text
-loop-i-init c =
-    let s = c in
-    (s.requires.0, omega arith, s.requires.1, refl, put_none s.args.out.now s.args.at)
+loop-b-init c = (omega arith, put_none c.args.out.now c.args.at)
 
-pub write_pair-end-requires : goal.write_pair-end-requires
-write_pair-end-requires c =
-    let turn = c in
-    let L = turn.loop-i in
-    let frame = turn.args.frame.now in
-    omega (arith, L.invariant.4.0, size frame L.i (omega arith))
-
-pub loop-i-preserved : goal.loop-i-preserved
-loop-i-preserved c =
-    let L = c.loop-i in
+pub loop-b-preserved : goal.loop-b-preserved
+loop-b-preserved c =
+    let L = c.loop-b in
     let a = c.args in
     let frame = a.frame.now in
-    let h : L.i < length frame = omega arith in
-    let p = put_append a.out.now L.out _ a.at L.end _ (hex_text (take L.i frame)) (hex_pair (get_or frame L.i 0)) (omega arith) L.invariant.4 c.write_pair-end.ensures in
-    (L.invariant.0, omega arith, L.invariant.2, c.write_pair-end.auto.out ∙ L.invariant.3, rw (hex_more frame L.i h) p)
-
-pub returns : goal.returns
-returns c =
-    let L = c.loop-i in
-    let a = c.args in
-    let e : L.i ≡ length a.frame.now = omega (arith, c.loop-i-test.false) in
-    rw (e, take-length a.frame.now) at L.invariant.4
+    let h : L.b-index < length frame = omega arith in
+    let p = put_append a.out.now L.out _ a.at L.end _ (hex_text (take L.b-index frame)) (hex_pair (get_or frame L.b-index 0)) (omega arith) L.invariant.1 c.write_pair-end.ensures in
+    (omega (arith, c.write_pair-end.ensures.0), rw (hex_more frame L.b-index h) p)

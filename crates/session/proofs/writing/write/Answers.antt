@@ -1,69 +1,73 @@
 -- `session::writing::write` meets its contract: three tests decide the refusal, and otherwise the text is put. Assumes nothing.
-use mathlib.Core.Path.{◌≡◌, sym, ◌∙◌}
-use mathlib.Core.Bool.{true}
-use mathlib.Core.List.{List}
-use Prim.Native.Nat.{ℕ, ◌/◌, ◌≤◌}
+use mathlib.Core.Path.{◌≡◌, refl, sym, ap, ◌∙◌}
+use mathlib.Core.Bool.{Bool, true, false}
+use mathlib.Core.Logic.{inl, inr}
+use Prim.Native.Nat.{◌+◌, ◌*◌, ◌/◌, ◌≤◌}
 use native.Mathlib.Omega.{arith}
 use lib.ListN.{length}
-use Rattle.session.specs.Writing.{is_whole, text_of}
-use Rattle.session.proofs.Frames.{whole_parts}
-use Rattle.session.proofs.Texts.{text_length, text_le}
+use borrow.Author.Tests.{eqb-true, eqb-false}
+use Rattle.session.specs.Writing.{is_whole, any_padded, frames_of, text_of}
+use Rattle.text.proofs.Decimals.{decimal_length}
+use Rattle.session.specs.Format.{header}
+use Rattle.session.proofs.Frames.{whole_parts, whole_is, chunks_are}
+use Rattle.session.proofs.Texts.{header_length, text_length}
 use Rattle.session.proofs.Answers.{part_owes, short_owes, padding_owes, text_owes}
 use Rattle.session.proofs.writing.write.Goals as goal
-use Rattle.session.proofs.writing.write.Goals.{Else-not-is_whole, Else-out-header_size}
+use Rattle.session.proofs.writing.write.Goals.{Joined-then-not-is_empty, Else-frames-gt2000}
+
+-- bytes are left over, or there are too many frames
+not_whole : (c : Joined-then-not-is_empty) → is_whole c.args.frames.now ≡ false
+not_whole c = go (is_whole c.args.frames.now) refl
+  where
+    go : (b : Bool) → is_whole c.args.frames.now ≡ b → b ≡ false
+    go false e = refl
+    go true e =
+        let w = whole_parts c.args.frames.now e in
+        let n = c.as_chunks.ensures.back_len in
+        let m = c.as_chunks.ensures.front_len in
+        let t = c.is_empty.ensures in
+        elim c.then-not-is_empty.either [ inl f ↦ absurd (omega (arith, eqb-false _ 0 (sym t ∙ f), n, w.0)) | inr f ↦ absurd (omega (arith, f.1, m, w.1)) ]
 
 -- the frames are whole, and few
-module _ (c : Else-not-is_whole) where
-  abbrev frames : List ℕ
-  frames = c.args.frames.now
+module _ (c : Else-frames-gt2000) where
+  few : length c.args.frames.now / 7 ≤ 2000
+  few = omega (arith, c.as_chunks.ensures.front_len)
 
-  whole : is_whole frames ≡ true
-  whole = sym c.is_whole.ensures ∙ c.if-not-is_whole.false
+  whole : is_whole c.args.frames.now ≡ true
+  whole = whole_is c.args.frames.now (sym c.as_chunks.ensures.back_len ∙ eqb-true _ 0 (sym c.is_empty.ensures ∙ c.if-not-is_empty.false)) few
 
-  few : length frames / 7 ≤ 2000
-  few = (whole_parts frames whole).1
+  same : c.as_chunks.result.0.now ≡ frames_of c.args.frames.now
+  same = c.as_chunks.ensures.front ∙ chunks_are c.args.frames.now
 
--- there is room for the text
-room : (c : Else-out-header_size) → length (text_of c.args.frames.now) ≤ length c.args.out.now
-room c = omega (arith, c.if-out-header_size.false, c.header_size.ensures, text_length c.args.frames.now)
-
-pub returns-then-not-is_whole : goal.returns-then-not-is_whole
-returns-then-not-is_whole c =
-    let a = c.args in
-    let p = part_owes a.frames.now a.out.now (sym c.is_whole.ensures ∙ c.if-not-is_whole.true) in
+pub returns-then-not-is_empty : goal.returns-then-not-is_empty
+returns-then-not-is_empty c =
+    let p = part_owes c.args.frames.now c.args.out.now (not_whole c) in
     record { answer = p.0; written = p.1 }
-
-pub header_size-requires : goal.header_size-requires
-header_size-requires c = omega (arith, few (goal.at.header_size-requires c).Else-not-is_whole)
-
-pub overflow_mul-count : goal.overflow_mul-count
-overflow_mul-count c = record { fits = omega (arith, few (goal.at.overflow_mul-count c).Else-not-is_whole) }
 
 pub overflow_add-header_size : goal.overflow_add-header_size
 overflow_add-header_size c =
-    let f = c.args.frames.now in
-    record { fits = omega (arith, c.header_size.ensures, text_length f, text_le f (few (goal.at.overflow_add-header_size c).Else-not-is_whole)) }
+    let n = length c.as_chunks.result.0.now in
+    record { fits = omega (arith, header_length n, decimal_length 3 n (omega arith)) }
+
+-- how long the text is
+size : (c : Else-frames-gt2000) → length (text_of c.args.frames.now) ≡ length (header (length c.as_chunks.result.0.now)) + 17 * length c.as_chunks.result.0.now
+size c = let e = c.as_chunks.ensures.front_len in rw e (text_length c.args.frames.now)
 
 pub returns-then-out-header_size : goal.returns-then-out-header_size
 returns-then-out-header_size c =
-    let f = c.args.frames.now in
-    let w = whole (goal.at.returns-then-out-header_size c).Else-not-is_whole in
-    let p = short_owes f c.args.out.now w (omega (arith, c.if-out-header_size.true, c.header_size.ensures, text_length f)) in
+    let e = (goal.at.returns-then-out-header_size c).Else-frames-gt2000 in
+    let p = short_owes c.args.frames.now c.args.out.now (whole e) (omega (arith, size e)) in
     record { answer = p.0; written = p.1 }
 
 pub returns-then-has_padding : goal.returns-then-has_padding
 returns-then-has_padding c =
-    let w = whole (goal.at.returns-then-has_padding c).Else-not-is_whole in
-    let r = room (goal.at.returns-then-has_padding c).Else-out-header_size in
-    let p = padding_owes c.args.frames.now c.args.out.now w r (sym c.has_padding.ensures ∙ c.if-has_padding.true) in
+    let e = (goal.at.returns-then-has_padding c).Else-frames-gt2000 in
+    let p = padding_owes c.args.frames.now c.args.out.now (whole e) (omega (arith, size e)) (ap any_padded (sym (same e)) ∙ sym c.has_padding.ensures ∙ c.if-has_padding.true) in
     record { answer = p.0; written = p.1 }
-
-pub write_text-requires : goal.write_text-requires
-write_text-requires c = room (goal.at.write_text-requires c).Else-out-header_size
 
 pub returns : goal.returns
 returns c =
-    let w = whole (goal.at.returns c).Else-not-is_whole in
-    let r = room (goal.at.returns c).Else-out-header_size in
-    let p = text_owes c.args.frames.now c.args.out.now w r (sym c.has_padding.ensures ∙ c.if-has_padding.false) _ _ c.write_text.ensures in
+    let e = (goal.at.returns c).Else-frames-gt2000 in
+    let w = rw (same e) at c.write_text.ensures in
+    let p = text_owes c.args.frames.now c.args.out.now (whole e) (omega (arith, size e)) (ap any_padded (sym (same e)) ∙ sym c.has_padding.ensures ∙ c.if-has_padding.false) _ _ w in
     record { answer = p.0; written = p.1 }
