@@ -3,8 +3,6 @@ ghost use Rattle.std.specs.Prelude.{◌≡◌, ◌++◌, ◌≤◌, length, drop
 ghost use Rattle.std.specs.Counts.{IsPrefixLen};
 ghost use Rattle.bench_pack.specs.Inputs.{input_sent};
 
-use set_frames::FramesAnswer;
-
 // The frames of all whole sets after the order to the front of `out`; where they end. A set that is refused, or a list that
 // is no order, ends them.
 pub(crate) fn pack_input(input: &[u8], out: &mut [u8]) -> usize
@@ -16,8 +14,5 @@ pub(crate) fn pack_input(input: &[u8], out: &mut [u8]) -> usize
     if input.len() < 54 {
         return 0;
     }
-    match set_frames::pack_sets(&input[54..], &input[..54], out) {
-        FramesAnswer::Packed(end) => end,
-        FramesAnswer::Refused(_) => 0,
-    }
+    set_frames::pack_sets(&input[54..], &input[..54], out).unwrap()
 }

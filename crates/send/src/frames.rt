@@ -4,8 +4,6 @@ ghost use Rattle.std.specs.Counts.{IsPrefixLen};
 ghost use Rattle.order.specs.Order.{default_order};
 ghost use Rattle.set_frames.specs.Sending.{sets_in, sent};
 
-use set_frames::FramesAnswer;
-
 // The frames of all whole sets to the front of `out`, by a sender that starts fresh; where they end. A set that
 // is refused ends them.
 pub(crate) fn pack_sets(bytes: &[u8], out: &mut [u8]) -> usize
@@ -15,8 +13,5 @@ pub(crate) fn pack_sets(bytes: &[u8], out: &mut [u8]) -> usize
     ensures written { out.new ≡ sent default_order bytes.now ++ drop result out.old }
 {
     let order = order::default_order();
-    match set_frames::pack_sets(bytes, &order, out) {
-        FramesAnswer::Packed(end) => end,
-        FramesAnswer::Refused(_) => 0,
-    }
+    set_frames::pack_sets(bytes, &order, out).unwrap()
 }

@@ -7,7 +7,7 @@ use native.Mathlib.Omega.{arith}
 use lib.ListN.{length, drop, length-append}
 use borrow.Author.Tests.{le-ltb}
 use Rattle.bits.specs.Lists.{written_unless}
-use Rattle.std.specs.Prelude.{Option, None, Ok, Err}
+use Rattle.std.specs.Prelude.{Option, None, Ok}
 use Rattle.refusal.specs.Refusals.{unless}
 use Rattle.refusal.specs.declared.Refusal.{Refusal}
 use Rattle.set_frames.specs.Sending.{sets_in, sent, frames_refusal, frames_answer, frames_writes}
@@ -17,7 +17,7 @@ module _ (ord bytes out : List ℕ) (h : 7 * sets_in bytes ≤ length out) where
   roomy = rw (le-ltb (length out / 7) (sets_in bytes) (omega arith)) refl
 
   -- what is answered and left
-  answered : frames_answer ord bytes (length out) ≡ Ok (length (sent ord bytes))
+  pub answered : frames_answer ord bytes (length out) ≡ Ok (length (sent ord bytes))
   unfolding frames_answer
   answered = ap (λ (n : Option Refusal). unless n (length (sent ord bytes))) roomy
 
@@ -32,7 +32,3 @@ module _ (ord bytes out : List ℕ) (h : 7 * sets_in bytes ≤ length out) where
       let same : end ≡ length (sent ord bytes) = cc (answered, e) in
       let all : after ≡ sent ord bytes ++ drop end out = w ∙ written ∙ ap (λ (n : ℕ). sent ord bytes ++ drop n out) (sym same) in
       (same, omega (arith, same, ap length all ∙ length-append (sent ord bytes) (drop end out)), all)
-
-  -- nothing is refused
-  pub not_refused : (f : Refusal) → frames_answer ord bytes (length out) ≡ Err f → ⊥
-  not_refused f e = let z : ◌≡◌ {A = ℕ} 0 1 = cc (answered, e) in omega arith

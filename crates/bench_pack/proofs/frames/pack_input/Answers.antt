@@ -7,7 +7,7 @@ use lib.ListN.{length, take, drop, length-drop, drop_of_length-le}
 use lib.Seq.{length-take-le}
 use Rattle.set_frames.specs.Sending.{sets_in, sent_from, sent}
 use Rattle.set_frames.proofs.Tails.{tail_is}
-use Rattle.set_frames.proofs.Room.{packed_is, not_refused}
+use Rattle.set_frames.proofs.Room.{answered, packed_is}
 use Rattle.bench_pack.specs.Inputs.{input_sent}
 use Rattle.bench_pack.proofs.frames.pack_input.Goals as goal
 
@@ -29,17 +29,17 @@ returns-then-input-lt54 c =
 pub slice_bounds-pack_sets-end-2 : goal.slice_bounds-pack_sets-end-2
 slice_bounds-pack_sets-end-2 c = sym (length-take-le 54 c.args.input.now (omega arith))
 
-pub returns-in-Packed : goal.returns-in-Packed
-returns-in-Packed c =
+pub unwrap-requires : goal.unwrap-requires
+unwrap-requires c =
+    let input = c.args.input.now in
+    let answer = rw (tail_is 54 input) at c.pack_sets.ensures.answer in
+    rw (answer, answered (take 54 input) (drop 54 input) c.args.out.now (roomy input c.args.out.now c.requires.0 c.requires.1)) refl
+
+pub returns : goal.returns
+returns c =
     let input = c.args.input.now in
     let answer = rw (tail_is 54 input) at c.pack_sets.ensures.answer in
     let after = rw (tail_is 54 input) at c.pack_sets.ensures.written in
-    let x = packed_is (take 54 input) (drop 54 input) c.args.out.now (roomy input c.args.out.now c.requires.0 c.requires.1) c.in-Packed.end _
-    (sym answer ∙ c.in-Packed.is) after in
+    let x = packed_is (take 54 input) (drop 54 input) c.args.out.now (roomy input c.args.out.now c.requires.0 c.requires.1) c.unwrap.result _
+    (sym answer ∙ c.unwrap.ensures) after in
     record { end = x.0; size = (x.1, sym (length-take-le _ _ x.1)); written = x.2 }
-
-pub returns-in-Refused : goal.returns-in-Refused
-returns-in-Refused c =
-    let input = c.args.input.now in
-    let answer = rw (tail_is 54 input) at c.pack_sets.ensures.answer in
-    absurd (not_refused (take 54 input) (drop 54 input) c.args.out.now (roomy input c.args.out.now c.requires.0 c.requires.1) _ (sym answer ∙ c.in-Refused.is))
