@@ -2,32 +2,33 @@
 use mathlib.Core.Path.{◌≡◌, refl, sym, ap, subst, ◌∙◌}
 use mathlib.Core.List.{List, [], ◌∷◌, map}
 use Prim.Native.Nat.{ℕ, zero, suc}
-use native.Mathlib.Omega.{arith}
 use lib.ListN.{length}
+use Rattle.std.specs.Prelude.{None, Some, Ok, Err}
 use Rattle.session.specs.Format.{most_frames}
-use Rattle.session_reader.specs.Steps.{step_at}
+use Rattle.session_reader.specs.Steps.{Answer, step_at}
 use Rattle.session_reader.specs.Readers.{handed}
 use Rattle.session_claims.specs.Reading.{Reading, onward, and_then, ends_by, reading_from}
-use Rattle.session_claims.specs.Calls.{NextCalls, Observed, observed, shown, CallsRead}
-use Rattle.session_reader.specs.declared.Answer.{Answer}
-use Rattle.session_reader.specs.declared.Answer.TheVariants.{Frame, End, Refused}
+use Rattle.session_claims.specs.Calls.{NextCalls, observed, shown, CallsRead}
 use Rattle.session_reader.specs.declared.Step.{Step}
 use Rattle.session_reader.specs.declared.reader.Reader.{Reader}
 use Rattle.session_reader.specs.declared.reader.Handed.{Handed}
-use Rattle.session_claims.proofs.Answers.{kind}
 use Rattle.session_claims.proofs.Repeats.{step_stays}
 use Rattle.session_claims.proofs.Claims.{claims}
 
--- an answer that is no frame ends a reading
-ends_onward : (a : Answer) (frame : List ℕ) (rest : Reading) → (a ≡ Frame → ⊥) → onward a frame rest ≡ ends_by a
-ends_onward Frame frame rest h = absurd (h refl)
-ends_onward End frame rest h = refl
-ends_onward (Refused n line) frame rest h = refl
+-- an answer that is no frame
+abbrev NoFrame : Answer → Type 0
+NoFrame a = (frame : List ℕ) → a ≡ Ok (Some frame) → ⊥
 
-reading_ends : (m : ℕ) (text : List ℕ) (at : ℕ) → ((step_at text at).answer ≡ Frame → ⊥) → reading_from m text at ≡ ends_by (step_at text at).answer
+-- it ends a reading
+ends_onward : (a : Answer) (rest : Reading) → NoFrame a → onward a rest ≡ ends_by a
+ends_onward (Ok (Some frame)) rest h = absurd (h frame refl)
+ends_onward (Ok None) rest h = refl
+ends_onward (Err r) rest h = refl
+
+reading_ends : (m : ℕ) (text : List ℕ) (at : ℕ) → NoFrame (step_at text at).answer → reading_from m text at ≡ ends_by (step_at text at).answer
 unfolding reading_from
 reading_ends zero text at h = refl
-reading_ends (suc m) text at h = ends_onward (step_at text at).answer (step_at text at).frame (reading_from m text (step_at text at).at) h
+reading_ends (suc m) text at h = ends_onward (step_at text at).answer (reading_from m text (step_at text at).at) h
 
 -- a reading of no frame ends by the step
 reading_none : (text : List ℕ) (at : ℕ) → (reading_from zero text at).answer ≡ (step_at text at).answer
@@ -35,20 +36,20 @@ unfolding reading_from
 reading_none text at = refl
 
 -- a frame goes before the rest of it
-reading_next : (m : ℕ) (text : List ℕ) (at : ℕ) → (step_at text at).answer ≡ Frame
-    → reading_from (suc m) text at ≡ and_then (step_at text at).frame (reading_from m text (step_at text at).at)
+reading_next : (m : ℕ) (text : List ℕ) (at : ℕ) (frame : List ℕ) → (step_at text at).answer ≡ Ok (Some frame)
+    → reading_from (suc m) text at ≡ and_then frame (reading_from m text (step_at text at).at)
 unfolding reading_from
-reading_next m text at e = ap (λ (a : Answer). onward a (step_at text at).frame (reading_from m text (step_at text at).at)) e
+reading_next m text at frame e = ap (λ (a : Answer). onward a (reading_from m text (step_at text at).at)) e
 
 -- what calls show of a reading
-abbrev shows : ℕ → Reading → List Observed
+abbrev shows : ℕ → Reading → List Answer
 shows n r = shown n r.frames r.answer
 
 -- a frame or not
-frame_or_not : {P : Type 0} (a : Answer) → (a ≡ Frame → P) → ((a ≡ Frame → ⊥) → P) → P
-frame_or_not Frame is is-not = is refl
-frame_or_not End is is-not = is-not (λ e. omega (arith, ap kind e))
-frame_or_not (Refused n line) is is-not = is-not (λ e. omega (arith, ap kind e))
+frame_or_not : {P : Type 0} (a : Answer) → ((frame : List ℕ) → a ≡ Ok (Some frame) → P) → (NoFrame a → P) → P
+frame_or_not (Ok (Some frame)) is is-not = is frame refl
+frame_or_not (Ok None) is is-not = is-not (λ frame e. cc)
+frame_or_not (Err r) is is-not = is-not (λ frame e. cc)
 
 -- the reader that a call hands back stands where its step says
 abbrev moved_to : Reader → ℕ → Reader
@@ -56,7 +57,7 @@ moved_to r at = record { text = r.text; at = at }
 
 -- calls from any offset, for a reading that comes to an end
 abbrev Claim : List Handed → Reader → ℕ → Type 0
-Claim hs r m = ((reading_from m r.text.now r.at).answer ≡ Frame → ⊥) → NextCalls r hs
+Claim hs r m = NoFrame (reading_from m r.text.now r.at).answer → NextCalls r hs
     → map observed hs ≡ shows (length hs) (reading_from m r.text.now r.at)
 
 -- the same after a first call, by those after it
@@ -71,20 +72,21 @@ module _ (hs : List Handed) (r : Reader) (later : NextCalls (handed r).rest hs) 
   step = step_at text r.at
 
   -- a frame was handed on
-  onto : (m : ℕ) → ((n : ℕ) → Claim hs (handed r).rest n) → ((reading_from m text r.at).answer ≡ Frame → ⊥) → step.answer ≡ Frame → Opened hs r m
-  onto zero more ends f = absurd (ends (reading_none text r.at ∙ f))
-  onto (suc m) more ends f =
-      let next = reading_next m text r.at f in
-      let rest = more m (λ q. ends (ap (λ (x : Reading). x.answer) next ∙ q)) later in
-      (λ i. record { answer = f i; frame = step.frame } ∷ rest i) ∙ ap (shows (suc (length hs))) (sym next)
+  onto : (m : ℕ) → ((n : ℕ) → Claim hs (handed r).rest n) → NoFrame (reading_from m text r.at).answer
+      → (frame : List ℕ) → step.answer ≡ Ok (Some frame) → Opened hs r m
+  onto zero more ends frame f = absurd (ends frame (reading_none text r.at ∙ f))
+  onto (suc m) more ends frame f =
+      let next = reading_next m text r.at frame f in
+      let rest = more m (λ x q. ends x (ap (λ (y : Reading). y.answer) next ∙ q)) later in
+      (λ i. f i ∷ rest i) ∙ ap (shows (suc (length hs))) (sym next)
 
   -- none was
-  stop : (m : ℕ) → Claim hs r m → ((reading_from m text r.at).answer ≡ Frame → ⊥) → (step.answer ≡ Frame → ⊥) → Opened hs r m
+  stop : (m : ℕ) → Claim hs r m → NoFrame (reading_from m text r.at).answer → NoFrame step.answer → Opened hs r m
   stop m more ends n =
       let same = step_stays text r.at n in
       let end = reading_ends m text r.at n in
       let rest = more ends (subst (λ (x : Step). NextCalls (moved_to r x.at) hs) same later) ∙ ap (shows (length hs)) end in
-      (λ i. record { answer = step.answer; frame = (same i).frame } ∷ rest i) ∙ ap (shows (suc (length hs))) (sym end)
+      (λ i. step.answer ∷ rest i) ∙ ap (shows (suc (length hs))) (sym end)
 
 from : (hs : List Handed) (r : Reader) (m : ℕ) → Claim hs r m
 from [] r m ends calls = refl

@@ -1,17 +1,20 @@
 -- What is claimed of session files. Assumes nothing.
 use mathlib.Core.Path.{◌≡◌, refl, sym, ap, ◌∙◌}
 use mathlib.Core.List.{List, []}
-use Prim.Native.Nat.{ℕ, zero, suc, ◌+◌}
+use Prim.Native.Nat.{ℕ, ◌+◌}
 use native.Mathlib.Omega.{arith}
 use lib.ListN.{drop}
+use Rattle.std.specs.Prelude.{Option, None, Some, Ok}
+use Rattle.refusal.specs.Refusals.{number_of}
+use Rattle.refusal.specs.declared.Refusal.{Refusal}
+use Rattle.refusal.specs.declared.Refusal.TheVariants.{BadLine}
 use Rattle.session.specs.Format.{frame_lines, most_text}
 use Rattle.session_lines.specs.Headers.{bad_header_line, frames_in, first_place}
-use Rattle.session_reader.specs.Steps.{step_at}
+use Rattle.session_reader.specs.Steps.{refused, step_at}
 use Rattle.session_claims.specs.Reading.{reading}
 use Rattle.session_claims.specs.Claims.{FirstBad, Claims}
-use Rattle.session_reader.specs.declared.Answer.TheVariants.{Frame, Refused}
 use Rattle.session_reader.specs.declared.Step.{Step}
-use Rattle.session_claims.proofs.Answers.{kind, refused_only}
+use Rattle.session_claims.proofs.Refusals.{refused_only}
 use Rattle.session_lines.proofs.Headers.{good_header}
 use Rattle.session_claims.proofs.Rests.{rest_ends}
 use Rattle.session_claims.proofs.Readings.{reading_bad, reading_good}
@@ -24,32 +27,32 @@ use Rattle.session_claims.proofs.Writers.{written_back, rewritten_back}
 
 module _ (text : List ℕ) where
   -- a refusal is what the first bad line asks for
-  refused : (number line : ℕ) → (reading text).answer ≡ Refused number line → FirstBad text (reading text).frames number line
+  refused_by : (f : Refusal) (line : ℕ) → (reading text).answer ≡ refused f line → FirstBad text (reading text).frames (number_of f) line
   unfolding frame_lines
-  refused number line = go (bad_header_line text) refl
+  refused_by f line = go (bad_header_line text) refl
     where
-      go : (b : ℕ) → bad_header_line text ≡ b → (reading text).answer ≡ Refused number line → FirstBad text (reading text).frames number line
-      go (suc b) e =
-          rw (reading_bad text b e) λ q. let p = refused_only 8 (suc b) number line q in
-          bad_header text number line p.0 (e ∙ sym p.1) (λ z. omega arith)
-      go zero e =
+      go : (b : Option ℕ) → bad_header_line text ≡ b → (reading text).answer ≡ refused f line → FirstBad text (reading text).frames (number_of f) line
+      go (Some b) e =
+          rw (reading_bad text b e) λ q. let p = refused_only BadLine f b line q in
+          bad_header text (number_of f) line p.0 (e ∙ ap Some (sym p.1))
+      go None e =
           let h = good_header text e in
           let n = frames_in text in
-          rw (reading_good text e) (rest_refused text n number line h.1 n (drop (first_place text) text) 0 [] refl (omega arith) tt h.0)
+          rw (reading_good text e) (rest_refused text n f line h.1 n (drop (first_place text) text) 0 [] refl (omega arith) tt h.0)
 
   -- no reading ends with a frame
-  ends : (reading text).answer ≡ Frame → ⊥
-  ends = go (bad_header_line text) refl
+  ends : (frame : List ℕ) → (reading text).answer ≡ Ok (Some frame) → ⊥
+  ends frame = go (bad_header_line text) refl
     where
-      go : (b : ℕ) → bad_header_line text ≡ b → (reading text).answer ≡ Frame → ⊥
-      go (suc b) e = rw (reading_bad text b e) (λ q. omega (arith, ap kind q))
-      go zero e = rw (reading_good text e) (rest_ends (frames_in text) (drop (first_place text) text) 0)
+      go : (b : Option ℕ) → bad_header_line text ≡ b → (reading text).answer ≡ Ok (Some frame) → ⊥
+      go (Some b) e = rw (reading_bad text b e) (λ q. cc)
+      go None e = rw (reading_good text e) (rest_ends (frames_in text) (drop (first_place text) text) 0 frame)
 
 pub claims : Claims
 claims = record {
   back = text_back;
   only = text_only;
-  refused = refused;
+  refused = refused_by;
   ends = ends;
   again = λ text at h. ap (λ (s : Step). step_at text s.at) (step_stays text at h);
   written = written_back;

@@ -14,6 +14,7 @@ unfolding bit_at digits decimal count_line hex_text frame_line frame_lines heade
 examples = record {
   good = record { first = refl; end = refl; end_of_none = refl };
   bad = record {
+    numbers = (refl, refl);
     empty = refl;
     another_file = refl;
     another_order = refl;

@@ -1,6 +1,5 @@
 pub mod Refusals
 pub mod Places
-pub mod Answers
 pub mod Rests
 pub mod Readings
 pub mod BadHeaders

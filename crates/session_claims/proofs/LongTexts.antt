@@ -1,12 +1,13 @@
 -- Past the longest file and one byte more, no byte of a text counts. Assumes nothing.
 use mathlib.Core.Path.{◌≡◌, refl, sym, ap, ◌∙◌}
 use mathlib.Core.List.{List}
-use Prim.Native.Nat.{ℕ, zero, suc, ◌+◌, ◌-◌, ◌≤◌}
+use Prim.Native.Nat.{ℕ, ◌+◌, ◌-◌, ◌≤◌}
 use native.Mathlib.Omega.{arith}
 use lib.ListN.{length, take, drop, length-append}
 use lib.Seq.{take-take}
 use Rattle.text.specs.Text.{ascii, decimal}
 use Rattle.text.proofs.Decimals.{decimal_length}
+use Rattle.std.specs.Prelude.{Option, None, Some}
 use Rattle.session.specs.Format.{file_line, order_line, count_line, most_text}
 use Rattle.session_lines.specs.Lines.{digits_value}
 use Rattle.session_lines.specs.Headers.{bad_header_line, frames_in, first_place}
@@ -53,9 +54,9 @@ module _ (text : List ℕ) (m : ℕ) (enough : most_text + 1 ≤ m) where
   pub reading_take : reading (take m text) ≡ reading text
   reading_take = go (bad_header_line text) refl
     where
-      go : (b : ℕ) → bad_header_line text ≡ b → reading (take m text) ≡ reading text
-      go (suc b) e = reading_bad (take m text) b (bad_same ∙ e) ∙ sym (reading_bad text b e)
-      go zero e =
+      go : (b : Option ℕ) → bad_header_line text ≡ b → reading (take m text) ≡ reading text
+      go (Some b) e = reading_bad (take m text) b (bad_same ∙ e) ∙ sym (reading_bad text b e)
+      go None e =
           let front = take m text in
           let frames : frames_in front ≡ frames_in text = frames_is front n number_same (bad_same ∙ e) ∙ sym (frames_is text n refl e) in
           let first = first_is text n refl e in

@@ -6,10 +6,11 @@ use Prim.Native.Nat.{ℕ, ◌+◌, ◌-◌, ◌*◌, ◌/◌, ◌%◌, ◌≤◌
 use native.Mathlib.Omega.{arith}
 use lib.Dec.{eqb}
 use borrow.Author.Tests.{le-leb, eq-eqb, ne_eqb}
+use Rattle.std.specs.Prelude.{None}
 use Rattle.session_lines.specs.Headers.{bad_header_line, frames_in, first_place}
 use Rattle.session_reader.specs.Steps.{place_of, is_place, frame_step, last_step, place_step, step_after, step_at}
 
-module _ (text : List ℕ) (k at : ℕ) (good : bad_header_line text ≡ 0) (e : place_of (first_place text) at ≡ first_place text + 17 * k) where
+module _ (text : List ℕ) (k at : ℕ) (good : bad_header_line text ≡ None) (e : place_of (first_place text) at ≡ first_place text + 17 * k) where
   -- the place of the line after those of k frames
   abbrev place : ℕ
   place = first_place text + 17 * k

@@ -3,30 +3,30 @@ use mathlib.Core.Path.{◌≡◌, refl, sym, ap, ◌∙◌}
 use mathlib.Core.Bool.{true}
 use mathlib.Core.List.{List, [], ◌∷◌, ◌++◌}
 use Prim.Native.Nat.{ℕ, zero, suc, ◌+◌}
-use native.Mathlib.Omega.{arith}
 use lib.ListN.{length, drop, take-append-drop}
 use lib.Seq.{drop_at}
+use Rattle.std.specs.Prelude.{Option, None, Some, Ok}
 use Rattle.bits.specs.Lists.{Every}
+use Rattle.refusal.specs.declared.Refusal.{Refusal}
+use Rattle.refusal.specs.declared.Refusal.TheVariants.{BadLine}
 use Rattle.session.specs.Format.{frame_line, frame_lines}
 use Rattle.session_lines.specs.Lines.{line_of, is_frame_line, frame_of, line_refusal}
 use Rattle.session_claims.specs.Claims.{Good}
 use Rattle.session_claims.specs.Reading.{Reading, and_then, ends_by}
-use Rattle.session_reader.specs.declared.Answer.{Answer}
-use Rattle.session_reader.specs.declared.Answer.TheVariants.{Frame, End, Refused}
-use Rattle.session_claims.proofs.Answers.{kind}
+use Rattle.session_reader.specs.Steps.{Answer, refused}
 use Rattle.session_lines.proofs.FrameLines.{line_back, frame_back, frame_line_first}
 use Rattle.session_lines.proofs.FrameScans.{frame_is}
 use Rattle.session_claims.proofs.Refusals.{Judged, judged, good_seven, good_taken}
 
 -- the answer after the last of k frames
 abbrev pub end_answer : List ℕ → ℕ → Answer
-end_answer [] k = End
-end_answer (c ∷ cs) k = Refused 8 (k + 4)
+end_answer [] k = Ok None
+end_answer (c ∷ cs) k = refused BadLine (k + 4)
 
 -- a frame and the reading after it, or a refusal
-abbrev pub handed : ℕ → ℕ → List ℕ → Reading → Reading
-handed zero line frame rest = and_then frame rest
-handed (suc n) line frame rest = ends_by (Refused (suc n) line)
+abbrev pub handed : Option Refusal → ℕ → List ℕ → Reading → Reading
+handed None line frame rest = and_then frame rest
+handed (Some f) line frame rest = ends_by (refused f line)
 
 -- the reading of what is left, with j frames to come after k
 unfoldable pub rest_reading : ℕ → List ℕ → ℕ → Reading
@@ -34,19 +34,19 @@ rest_reading zero t k = ends_by (end_answer t k)
 rest_reading (suc j) t k = handed (line_refusal (line_of t)) (k + 4) (frame_of (line_of t)) (rest_reading j (drop 17 t) (suc k))
 
 -- a reading of the rest ends
-pub rest_ends : (j : ℕ) (t : List ℕ) (k : ℕ) → (rest_reading j t k).answer ≡ Frame → ⊥
+pub rest_ends : (j : ℕ) (t : List ℕ) (k : ℕ) (frame : List ℕ) → (rest_reading j t k).answer ≡ Ok (Some frame) → ⊥
 unfolding rest_reading
-rest_ends zero [] k e = omega (arith, ap kind e)
-rest_ends zero (c ∷ cs) k e = omega (arith, ap kind e)
-rest_ends (suc j) t k e = go (line_refusal (line_of t)) (rest_ends j (drop 17 t) (suc k)) e
+rest_ends zero [] k frame e = cc
+rest_ends zero (c ∷ cs) k frame e = cc
+rest_ends (suc j) t k frame e = go (line_refusal (line_of t)) (rest_ends j (drop 17 t) (suc k) frame) e
   where
-    go : (r : ℕ) → ((rest_reading j (drop 17 t) (suc k)).answer ≡ Frame → ⊥)
-        → (handed r (k + 4) (frame_of (line_of t)) (rest_reading j (drop 17 t) (suc k))).answer ≡ Frame → ⊥
-    go zero more e = more e
-    go (suc r) more e = omega (arith, ap kind e)
+    go : (r : Option Refusal) → ((rest_reading j (drop 17 t) (suc k)).answer ≡ Ok (Some frame) → ⊥)
+        → (handed r (k + 4) (frame_of (line_of t)) (rest_reading j (drop 17 t) (suc k))).answer ≡ Ok (Some frame) → ⊥
+    go None more e = more e
+    go (Some f) more e = cc
 
 -- the lines of good frames are read back as these frames
-pub rest_back : (fs : List (List ℕ)) (k : ℕ) → Every Good fs → rest_reading (length fs) (frame_lines fs) k ≡ record { frames = fs; answer = End }
+pub rest_back : (fs : List (List ℕ)) (k : ℕ) → Every Good fs → rest_reading (length fs) (frame_lines fs) k ≡ record { frames = fs; answer = Ok None }
 unfolding rest_reading frame_lines
 rest_back [] k g = refl
 rest_back (f ∷ fs) k (g, gs) =
@@ -59,11 +59,11 @@ pub taken_front : (t : List ℕ) → is_frame_line (line_of t) ≡ true → fram
 taken_front t e = ap (λ (l : List ℕ). l ++ drop 17 t) (sym (line_back (line_of t) e).1 ∙ (frame_is t e).1) ∙ take-append-drop 17 t
 
 -- a rest read to its end is the lines of the good frames handed on
-pub rest_only : (j : ℕ) (t : List ℕ) (k : ℕ) → (rest_reading j t k).answer ≡ End
+pub rest_only : (j : ℕ) (t : List ℕ) (k : ℕ) → (rest_reading j t k).answer ≡ Ok None
     → let fs = (rest_reading j t k).frames in (length fs ≡ j) × Every Good fs × (frame_lines fs ≡ t)
 unfolding rest_reading frame_lines
 rest_only zero [] k e = (refl, tt, refl)
-rest_only zero (c ∷ cs) k e = absurd (omega (arith, ap kind e))
+rest_only zero (c ∷ cs) k e = absurd cc
 rest_only (suc j) t k e = go (line_refusal l) (judged l) (rest_only j (drop 17 t) (suc k)) e
   where
     l : List ℕ
@@ -72,12 +72,12 @@ rest_only (suc j) t k e = go (line_refusal l) (judged l) (rest_only j (drop 17 t
     more : Reading
     more = rest_reading j (drop 17 t) (suc k)
 
-    go : (r : ℕ) → Judged l r → (more.answer ≡ End → (length more.frames ≡ j) × Every Good more.frames × (frame_lines more.frames ≡ drop 17 t))
-        → (handed r (k + 4) (frame_of l) more).answer ≡ End
+    go : (r : Option Refusal) → Judged l r → (more.answer ≡ Ok None → (length more.frames ≡ j) × Every Good more.frames × (frame_lines more.frames ≡ drop 17 t))
+        → (handed r (k + 4) (frame_of l) more).answer ≡ Ok None
         → let fs = (handed r (k + 4) (frame_of l) more).frames in (length fs ≡ suc j) × Every Good fs × (frame_lines fs ≡ t)
-    go zero (Judged.formless z f) h e = absurd (omega arith)
-    go zero (Judged.padded z f p) h e = absurd (omega arith)
-    go zero (Judged.taken z f g) h e =
+    go None (Judged.formless z f) h e = absurd cc
+    go None (Judged.padded z f p) h e = absurd cc
+    go None (Judged.taken z f g) h e =
         let p = h e in
         (ap suc p.0, (g, p.1), ap (λ (r : List ℕ). frame_line (frame_of l) ++ r) p.2 ∙ taken_front t f)
-    go (suc r) d h e = absurd (omega (arith, ap kind e))
+    go (Some r) d h e = absurd cc

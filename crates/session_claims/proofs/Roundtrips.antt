@@ -1,23 +1,22 @@
 -- Texts and lists of good frames: each list is read back from its text, and each text read to its end is that of its list. Assumes nothing.
 use mathlib.Core.Path.{◌≡◌, refl, sym, ap, ◌∙◌}
 use mathlib.Core.List.{List, ◌++◌}
-use Prim.Native.Nat.{ℕ, zero, suc, ◌≤◌}
+use Prim.Native.Nat.{ℕ, ◌≤◌}
 use native.Mathlib.Omega.{arith}
 use lib.ListN.{length, drop}
 use lib.Seq.{drop-append_seam}
 use Rattle.bits.specs.Lists.{Every}
+use Rattle.std.specs.Prelude.{Option, None, Some, Ok}
 use Rattle.session.specs.Format.{header, frame_lines, session_text, most_frames}
 use Rattle.session_lines.specs.Headers.{bad_header_line, frames_in, first_place}
 use Rattle.session_claims.specs.Reading.{Reading, reading}
 use Rattle.session_claims.specs.Claims.{Good}
-use Rattle.session_reader.specs.declared.Answer.TheVariants.{End}
-use Rattle.session_claims.proofs.Answers.{kind}
 use Rattle.session_lines.proofs.Headers.{good_header, header_good, header_frames, header_place}
 use Rattle.session_claims.proofs.Rests.{rest_reading, rest_back, rest_only}
 use Rattle.session_claims.proofs.Readings.{reading_bad, reading_good}
 
 -- the text of good frames is read back as these frames, and ends
-pub text_back : (fs : List (List ℕ)) → length fs ≤ most_frames → Every Good fs → reading (session_text fs) ≡ record { frames = fs; answer = End }
+pub text_back : (fs : List (List ℕ)) → length fs ≤ most_frames → Every Good fs → reading (session_text fs) ≡ record { frames = fs; answer = Ok None }
 unfolding session_text
 text_back fs h g =
     let n = length fs in
@@ -32,16 +31,16 @@ text_back fs h g =
 
 -- what a reading to the end tells
 abbrev Whole : List ℕ → Reading → Type 0
-Whole text r = r.answer ≡ End → (length r.frames ≤ most_frames) × Every Good r.frames × (session_text r.frames ≡ text)
+Whole text r = r.answer ≡ Ok None → (length r.frames ≤ most_frames) × Every Good r.frames × (session_text r.frames ≡ text)
 
 -- a text read to its end is that of the good frames handed on
 pub text_only : (text : List ℕ) → Whole text (reading text)
 unfolding session_text
 text_only text = go (bad_header_line text) refl
   where
-    go : (b : ℕ) → bad_header_line text ≡ b → Whole text (reading text)
-    go (suc b) e = rw (reading_bad text b e) (λ q. absurd (omega (arith, ap kind q)))
-    go zero e =
+    go : (b : Option ℕ) → bad_header_line text ≡ b → Whole text (reading text)
+    go (Some b) e = rw (reading_bad text b e) (λ q. absurd cc)
+    go None e =
         let n = frames_in text in
         let rest = drop (first_place text) text in
         let h = good_header text e in

@@ -1,9 +1,8 @@
 -- Document 02, T-01: a whole list of calls of a reader, of which only their contracts are known. Proved in the law file of this name.
-use Rattle.std.specs.Prelude.{ℕ, zero, suc, ◌≡◌, List, [], ◌∷◌, map, length, replicate}
+use Rattle.std.specs.Prelude.{ℕ, zero, suc, ◌≡◌, List, [], ◌∷◌, map, length, Some, Ok}
+use Rattle.session_reader.specs.Steps.{Answer}
 use Rattle.session_reader.specs.Readers.{handed}
 use Rattle.session_claims.specs.Reading.{reading}
-use Rattle.session_reader.specs.declared.Answer.{Answer}
-use Rattle.session_reader.specs.declared.Answer.TheVariants.{Frame}
 use Rattle.session_reader.specs.declared.reader.Reader.{Reader}
 use Rattle.session_reader.specs.declared.reader.Handed.{Handed}
 
@@ -12,19 +11,15 @@ abbrev pub NextCalls : Reader → List Handed → Type 0
 NextCalls r [] = Unit
 NextCalls r (h ∷ hs) = (h ≡ handed r) × NextCalls h.rest hs
 
--- what is observed of a call: the answer and the frame beside it
-pub record Observed : Type 0 where
-  pub answer : Answer
-  pub frame : List ℕ
-
-abbrev pub observed : Handed → Observed
-observed h = record { answer = h.step.answer; frame = h.step.frame }
+-- what is observed of a call: the answer, with the frame where it hands on one
+abbrev pub observed : Handed → Answer
+observed h = h.step.answer
 
 -- what n calls show of a reading: its frames one by one, then its answer again and again
-abbrev pub shown : ℕ → List (List ℕ) → Answer → List Observed
+abbrev pub shown : ℕ → List (List ℕ) → Answer → List Answer
 shown zero fs answer = []
-shown (suc n) [] answer = record { answer = answer; frame = replicate 7 0 } ∷ shown n [] answer
-shown (suc n) (f ∷ fs) answer = record { answer = Frame; frame = f } ∷ shown n fs answer
+shown (suc n) [] answer = answer ∷ shown n [] answer
+shown (suc n) (f ∷ fs) answer = Ok (Some f) ∷ shown n fs answer
 
 -- any list of calls of a reader from the start of a text, where `Reader::new` puts it, observes the reading of that text
 abbrev pub CallsRead : Type 0
