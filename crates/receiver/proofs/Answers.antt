@@ -1,28 +1,27 @@
--- What a receiving call owes in each of its cases, by what was taken from the frame: its refusal, or its logical bits in one number.
+-- What a receiving call owes by what was taken from the frame: its refusal, or its logical bits in one number.
 -- Assumes nothing.
 use mathlib.Core.Path.{◌≡◌, sym, ap, ap₂, ◌∙◌}
-use mathlib.Core.Bool.{Bool, true, false}
+use mathlib.Core.Bool.{Bool}
 use mathlib.Core.List.{List}
-use Prim.Native.Nat.{ℕ, suc, ◌/◌, ◌%◌, ◌<◌}
+use Prim.Native.Nat.{ℕ, ◌/◌, ◌%◌, ◌<◌}
 use native.Mathlib.Omega.{arith}
 use lib.Dec.{eqb, lit<}
+use Rattle.std.specs.Prelude.{Option, Some, Ok, Err}
+use Rattle.refusal.specs.Refusals.{first_refusal}
+use Rattle.refusal.specs.declared.Refusal.{Refusal}
 use Rattle.bits.specs.Bits.{carried}
 use Rattle.bits.proofs.Digits.{bits_at}
-use Rattle.bits.proofs.Tests.{T_true}
-use Rattle.order.specs.Order.{logical_bit}
+use Rattle.bits.proofs.Numbers.{carried_back}
+use Rattle.order.specs.Order.{logical_bit, frame_table}
 use Rattle.order.specs.Taking.{bits_number, bits_answer}
 use Rattle.order.proofs.Answers.{bits_taken, bits_refused}
-use Rattle.bits.proofs.Numbers.{carried_back}
-use Rattle.order.specs.declared.BitsAnswer.TheVariants as taking
 use Rattle.reading.specs.Reading.{read}
-use Rattle.reading.specs.declared.Reading.{Reading}
+use Rattle.reading.specs.declared.Accepted.{Accepted}
 use Rattle.reading.proofs.Extent.{read_ext}
-use Rattle.records.specs.Records.{valid}
-use Rattle.receiver.specs.Steps.{step}
-use Rattle.receiver.specs.Receiving.{receive_refusal, receive_unless, receive}
-use Rattle.receiver.proofs.Refusals.{frame_refused, record_refused, not_refused}
+use Rattle.receiver.specs.Steps.{step_unless}
+use Rattle.receiver.specs.Receiving.{record_table, receive_refusal, receive_unless, receive}
+use Rattle.receiver.proofs.Refusals.{passes, frame_refused}
 use Rattle.records.specs.declared.Record.{Record}
-use Rattle.receiver.specs.declared.ReceiveAnswer.TheVariants.{Refused}
 
 -- the last bit of a number is its remainder
 pub sync_is : (n : ℕ) → eqb (n % 2) 1 ≡ carried 54 n 53
@@ -36,25 +35,21 @@ module _ (ord bytes : List ℕ) where
   taken_bit n j e h = carried_back 54 (logical_bit ord bytes) n j e h
 
 module _ (ord : List ℕ) (r : Record) (bytes : List ℕ) where
-  -- what a call owes by the number of its refusal
-  owes : (n : ℕ) → receive_refusal ord r bytes ≡ n → receive_unless n ord r bytes ≡ receive ord r bytes
+  -- what a call owes by its refusal
+  owes : (n : Option Refusal) → receive_refusal ord r bytes ≡ n → receive_unless n ord r bytes ≡ receive ord r bytes
   unfolding receive
-  owes n e = ap (λ (m : ℕ). receive_unless m ord r bytes) (sym e)
+  owes n e = ap (λ (m : Option Refusal). receive_unless m ord r bytes) (sym e)
 
   -- a frame that is refused
-  pub frame_owes : (n : ℕ) → bits_answer ord bytes ≡ taking.Refused n → record { answer = Refused n; next = r } ≡ receive ord r bytes
-  frame_owes n e =
-      let x = bits_refused ord bytes n e in
-      ap (λ (k : ℕ). record { answer = Refused k; next = r }) x.2 ∙ owes (suc x.0) (frame_refused ord r bytes x.0 x.1)
+  pub frame_owes : (f : Refusal) → bits_answer ord bytes ≡ Err f → record { answer = Err f; next = r } ≡ receive ord r bytes
+  frame_owes f e = owes (Some f) (frame_refused ord r bytes f (bits_refused ord bytes f e))
 
-  module _ (n : ℕ) (e : bits_answer ord bytes ≡ taking.Bits n) where
-    -- a record that is not valid
-    pub record_owes : valid r ≡ false → record { answer = Refused 4; next = r } ≡ receive ord r bytes
-    record_owes v = owes 4 (record_refused ord r bytes (bits_taken ord bytes n e).0 v)
-
-    -- nothing refused
-    pub step_owes : valid r ≡ true → step r (eqb (n % 2) 1) (read (carried 54 n)) ≡ receive ord r bytes
-    step_owes v =
-        let same : (j : ℕ) → j < 54 → carried 54 n j ≡ logical_bit ord bytes j = λ j h. taken_bit ord bytes n j (bits_taken ord bytes n e).1 h in
-        ap₂ (λ (s : Bool) (x : Reading). step r s x) (sync_is n ∙ same 53 (lit< tt)) (read_ext (carried 54 n) (logical_bit ord bytes) (λ j h. same j (omega arith)))
-        ∙ owes 0 (not_refused ord r bytes (bits_taken ord bytes n e).0 (T_true (valid r) v))
+  -- one that is taken: a step, unless the record is refused
+  pub bits_owe : (n : ℕ) → bits_answer ord bytes ≡ Ok n
+      → step_unless (first_refusal (record_table r)) r (eqb (n % 2) 1) (read (carried 54 n)) ≡ receive ord r bytes
+  bits_owe n e =
+      let t = bits_taken ord bytes n e in
+      let same : (j : ℕ) → j < 54 → carried 54 n j ≡ logical_bit ord bytes j = λ j h. taken_bit ord bytes n j t.1 h in
+      ap₂ (λ (s : Bool) (x : Option Accepted). step_unless (first_refusal (record_table r)) r s x) (sync_is n ∙ same 53 (lit< tt))
+      (read_ext (carried 54 n) (logical_bit ord bytes) (λ j h. same j (omega arith)))
+      ∙ owes (first_refusal (record_table r)) (passes (frame_table ord bytes) (record_table r) t.0)

@@ -4,10 +4,8 @@ pub mod Refusals
 pub mod Sync
 pub mod Validity
 pub mod Answers
-pub mod Clauses
 pub mod Frames
 pub mod SoftRefusals
 pub mod SoftAnswers
-pub mod Values
 pub mod SoftClaims
 pub mod TakenOver

@@ -2,7 +2,9 @@
 -- Assumes nothing.
 use mathlib.Core.Path.{◌≡◌, refl, sym, ap, ◌∙◌}
 use mathlib.Core.List.{List, [], append_assoc}
-use Prim.Native.Nat.{ℕ, zero, suc, ◌<◌}
+use Prim.Native.Nat.{ℕ, ◌<◌}
+use Rattle.std.specs.Prelude.{Option, None, Some}
+use Rattle.refusal.specs.declared.Refusal.{Refusal}
 use native.Mathlib.Omega.{arith}
 use Rattle.refusal.specs.Refusals.{first_refusal}
 use lib.ListN.{length, replicate, length-replicate, get_or-replicate}
@@ -38,11 +40,11 @@ module _ (ord : List ℕ) (r : Record) (bytes : List ℕ) where
       → soft_receive ord r bytes confidences ≡ receive ord r bytes
   unfolding soft_receive receive
   alike confidences h e =
-      ap (λ (n : ℕ). soft_unless n r (logical_bit ord bytes) (confidence_of ord confidences)) (soft_refusal_is ord r bytes confidences h)
+      ap (λ (n : Option Refusal). soft_unless n r (logical_bit ord bytes) (confidence_of ord confidences)) (soft_refusal_is ord r bytes confidences h)
       ∙ ap (step_unless (receive_refusal ord r bytes) r (logical_bit ord bytes 53)) e
 
   -- a call that is not refused is lent an order
-  ordered : receive_refusal ord r bytes ≡ 0 → Order ord
+  ordered : receive_refusal ord r bytes ≡ None → Order ord
   ordered e = (frame_taken_only ord bytes (not_refused_only ord r bytes e).0).order
 
   -- 54 equal confidences above 0; where the call is refused, both ways refuse it alike
@@ -53,11 +55,11 @@ module _ (ord : List ℕ) (r : Record) (bytes : List ℕ) where
       same : soft_refusal ord r bytes (replicate 54 k) ≡ receive_refusal ord r bytes
       same = soft_refusal_is ord r bytes (replicate 54 k) (length-replicate 54 k)
 
-      go : (n : ℕ) → receive_refusal ord r bytes ≡ n → soft_receive ord r bytes (replicate 54 k) ≡ receive ord r bytes
-      go zero e = alike (replicate 54 k) (length-replicate 54 k) ((soft_claims (logical_bit ord bytes) (confidence_of ord (replicate 54 k))).equal k (all_equal ord (ordered e) k h) s)
-      go (suc n) e =
-          ap (λ (m : ℕ). soft_unless m r (logical_bit ord bytes) (confidence_of ord (replicate 54 k))) (same ∙ e)
-          ∙ sym (ap (λ (m : ℕ). receive_unless m ord r bytes) e)
+      go : (n : Option Refusal) → receive_refusal ord r bytes ≡ n → soft_receive ord r bytes (replicate 54 k) ≡ receive ord r bytes
+      go None e = alike (replicate 54 k) (length-replicate 54 k) ((soft_claims (logical_bit ord bytes) (confidence_of ord (replicate 54 k))).equal k (all_equal ord (ordered e) k h) s)
+      go (Some f) e =
+          ap (λ (m : Option Refusal). soft_unless m r (logical_bit ord bytes) (confidence_of ord (replicate 54 k))) (same ∙ e)
+          ∙ sym (ap (λ (m : Option Refusal). receive_unless m ord r bytes) e)
 
   -- all of it
   pub soft_received : SoftClaims ord r bytes

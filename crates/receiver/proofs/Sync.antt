@@ -4,14 +4,14 @@ use mathlib.Core.Path.{◌≡◌, refl, sym, ap, ◌∙◌}
 use mathlib.Core.Bool.{Bool}
 use mathlib.Core.List.{List}
 use Prim.Native.Nat.{ℕ, ◌<◌}
+use Rattle.std.specs.Prelude.{Option, None, Some}
 use native.Mathlib.Omega.{arith}
 use lib.Dec.{T}
 use Rattle.order.specs.Order.{Order, frame_of, logical_bit}
 use Rattle.order.proofs.Frames.{sent_bit}
 use Rattle.order.proofs.Refusals.{packed_taken}
 use Rattle.reading.specs.Reading.{read}
-use Rattle.reading.specs.declared.Reading.{Reading}
-use Rattle.reading.specs.declared.Reading.TheVariants.{Accepted, Erased}
+use Rattle.reading.specs.declared.Accepted.{Accepted}
 use Rattle.reading.proofs.Extent.{read_ext}
 use Rattle.records.specs.Records.{valid}
 use Rattle.records.specs.declared.Record.{Record}
@@ -21,10 +21,10 @@ use Rattle.receiver.specs.Sync.{with_sync, SyncDiffers, SyncAlone}
 use Rattle.receiver.specs.declared.Received.{Received}
 use Rattle.receiver.proofs.Refusals.{not_refused, receive_taken}
 
-step_sync : (r : Record) (s t : Bool) (x : Reading) → ((step r t x).answer ≡ with_sync t (step r s x).answer) × ((step r t x).next ≡ (step r s x).next)
+step_sync : (r : Record) (s t : Bool) (x : Option Accepted) → ((step r t x).answer ≡ with_sync t (step r s x).answer) × ((step r t x).next ≡ (step r s x).next)
 unfolding accepted repeated
-step_sync r s t (Accepted set k) = (refl, refl)
-step_sync r s t Erased = (refl, refl)
+step_sync r s t (Some x) = (refl, refl)
+step_sync r s t None = (refl, refl)
 
 -- frames that differ in the sync bit alone, in any order of the bits
 pub sync_alone : (ord : List ℕ) (r : Record) (bytes other : List ℕ) → SyncDiffers ord r bytes other → SyncAlone ord r bytes other

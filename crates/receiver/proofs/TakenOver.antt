@@ -3,7 +3,10 @@
 use mathlib.Core.Path.{◌≡◌, refl, ap, ◌∙◌}
 use mathlib.Core.Bool.{Bool, not, ◌&&◌, and-true}
 use mathlib.Core.List.{List, [], ◌∷◌, ◌++◌}
-use Prim.Native.Nat.{ℕ, zero, suc}
+use Prim.Native.Nat.{ℕ}
+use Rattle.std.specs.Prelude.{Option, None, Some}
+use Rattle.refusal.specs.declared.Refusal.{Refusal}
+use Rattle.refusal.specs.declared.Refusal.TheVariants.{InvalidRecord}
 use lib.Dec.{eqb_refl}
 use Rattle.refusal.specs.Refusals.{Table, first_refusal}
 use Rattle.bits.proofs.Tests.{true_T}
@@ -11,8 +14,7 @@ use Rattle.order.specs.Order.{logical_bit, frame_table}
 use Rattle.reading.specs.Reading.{read}
 use Rattle.order.specs.SoftTaking.{confidence_of, confidence_table}
 use Rattle.reading.specs.SoftReading.{soft_read}
-use Rattle.reading.specs.declared.Reading.{Reading}
-use Rattle.reading.specs.declared.Reading.TheVariants.{Accepted, Erased}
+use Rattle.reading.specs.declared.Accepted.{Accepted}
 use Rattle.records.specs.Records.{repeats_in, valid}
 use Rattle.records.specs.OldRecords.{valid_old, old_table, with_count}
 use Rattle.records.specs.declared.OldRecord.{OldRecord}
@@ -28,23 +30,23 @@ module _ (old : OldRecord) where
   taken_valid = ap (λ (b : Bool). valid_old old && b) (true_T _ (eqb_refl (repeats_in old.kinds))) ∙ and-true (valid_old old)
 
   taken_table : record_table (with_count old) ≡ old_table old
-  taken_table = ap (λ (b : Bool). (not b, 4) ∷ []) taken_valid
+  taken_table = ap (λ (b : Bool). (not b, InvalidRecord) ∷ []) taken_valid
 
   pub taken_record : TakenOverRecord old
   taken_record = record { as_valid = taken_valid; as_refused = ap first_refusal taken_table }
 
   -- a step
-  taken_step : (sync : Bool) (x : Reading) → step (with_count old) sync x ≡ in_step (old_step old sync x)
+  taken_step : (sync : Bool) (x : Option Accepted) → step (with_count old) sync x ≡ in_step (old_step old sync x)
   unfolding accepted repeated
-  taken_step sync (Accepted set k) = refl
-  taken_step sync Erased = refl
+  taken_step sync (Some x) = refl
+  taken_step sync None = refl
 
-  taken_unless : (n : ℕ) (sync : Bool) (x : Reading) → step_unless n (with_count old) sync x ≡ in_step (old_unless n old sync x)
-  taken_unless zero sync x = taken_step sync x
-  taken_unless (suc n) sync x = refl
+  taken_unless : (n : Option Refusal) (sync : Bool) (x : Option Accepted) → step_unless n (with_count old) sync x ≡ in_step (old_unless n old sync x)
+  taken_unless None sync x = taken_step sync x
+  taken_unless (Some f) sync x = refl
 
   -- a call, by what its table has before the record and what its bits are read as
-  taken_call : (before : Table → Table) (sync : Bool) (x : Reading)
+  taken_call : (before : Table → Table) (sync : Bool) (x : Option Accepted)
       → step_unless (first_refusal (before (record_table (with_count old)))) (with_count old) sync x ≡ in_step (old_unless (first_refusal (before (old_table old))) old sync x)
   taken_call before sync x =
       ap (λ (t : Table). step_unless (first_refusal (before t)) (with_count old) sync x) taken_table ∙ taken_unless (first_refusal (before (old_table old))) sync x

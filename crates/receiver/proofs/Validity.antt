@@ -2,13 +2,15 @@
 -- Assumes nothing.
 use mathlib.Core.Bool.{Bool}
 use mathlib.Core.List.{List}
-use Prim.Native.Nat.{ℕ, zero, suc}
+use Prim.Native.Nat.{ℕ}
+use Rattle.std.specs.Prelude.{Option, None, Some}
+use Rattle.refusal.specs.declared.Refusal.{Refusal}
 use lib.Dec.{T}
 use Rattle.order.specs.Order.{logical_bit}
 use Rattle.reading.specs.Reading.{read, reading_fits}
 use Rattle.order.specs.SoftTaking.{confidence_of}
 use Rattle.reading.specs.SoftReading.{soft_read}
-use Rattle.reading.specs.declared.Reading.{Reading}
+use Rattle.reading.specs.declared.Accepted.{Accepted}
 use Rattle.reading.proofs.Ranges.{read_fits}
 use Rattle.reading.proofs.SoftRanges.{soft_read_fits}
 use Rattle.records.specs.Records.{valid}
@@ -21,9 +23,9 @@ use Rattle.receiver.specs.Validity.{StaysValid}
 use Rattle.receiver.proofs.Results.{step_valid}
 
 -- a step, refused or not
-unless_valid : (n : ℕ) (r : Record) (sync : Bool) (x : Reading) → T (valid r) → T (reading_fits x) → T (valid (step_unless n r sync x).next)
-unless_valid zero r sync x v t = step_valid r sync x v t
-unless_valid (suc n) r sync x v t = v
+unless_valid : (n : Option Refusal) (r : Record) (sync : Bool) (x : Option Accepted) → T (valid r) → T (reading_fits x) → T (valid (step_unless n r sync x).next)
+unless_valid None r sync x v t = step_valid r sync x v t
+unless_valid (Some f) r sync x v t = v
 
 -- receiving any bytes leaves a valid record where it was given one
 pub receive_valid : (ord : List ℕ) (r : Record) (bytes : List ℕ) → T (valid r) → T (valid (receive ord r bytes).next)

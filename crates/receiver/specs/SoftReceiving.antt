@@ -1,6 +1,7 @@
 -- Document 02, T-05 and T-07: what a receiving call answers that is given a confidence for each place, and the record it gives, in the order that it is lent.
-use Rattle.std.specs.Prelude.{ℕ, Bool, List, ◌++◌}
+use Rattle.std.specs.Prelude.{ℕ, Bool, List, ◌++◌, Option}
 use Rattle.refusal.specs.Refusals.{Table, first_refusal}
+use Rattle.refusal.specs.declared.Refusal.{Refusal}
 use Rattle.order.specs.Order.{logical_bit, frame_table}
 use Rattle.order.specs.SoftTaking.{confidence_of, confidence_table}
 use Rattle.order.specs.Fields.{sync_bit}
@@ -14,13 +15,13 @@ use Rattle.receiver.specs.Receiving.{record_table}
 abbrev pub soft_table : List ℕ → Record → List ℕ → List ℕ → Table
 soft_table ord r bytes confidences = (frame_table ord bytes ++ confidence_table confidences) ++ record_table r
 
--- its refusal, 0 is none
-abbrev pub soft_refusal : List ℕ → Record → List ℕ → List ℕ → ℕ
+-- its refusal
+abbrev pub soft_refusal : List ℕ → Record → List ℕ → List ℕ → Option Refusal
 soft_refusal ord r bytes confidences = first_refusal (soft_table ord r bytes confidences)
 
 -- as without confidences, but that the words of an unvoiced frame are chosen by them
-abbrev pub soft_unless : ℕ → Record → (ℕ → Bool) → (ℕ → ℕ) → Received
-soft_unless n r g q = step_unless n r (sync_bit g) (soft_read g q)
+abbrev pub soft_unless : Option Refusal → Record → (ℕ → Bool) → (ℕ → ℕ) → Received
+soft_unless f r g q = step_unless f r (sync_bit g) (soft_read g q)
 
 unfoldable pub soft_receive : List ℕ → Record → List ℕ → List ℕ → Received
 soft_receive ord r bytes confidences = soft_unless (soft_refusal ord r bytes confidences) r (logical_bit ord bytes) (confidence_of ord confidences)

@@ -1,16 +1,15 @@
 -- Document 01, "Receiver": what a frame yields and leaves, by what its bits are read as.
-use Rattle.std.specs.Prelude.{ℕ, zero, suc, Bool}
+use Rattle.std.specs.Prelude.{ℕ, Bool, Option, None, Some, Ok, Err}
+use Rattle.refusal.specs.declared.Refusal.{Refusal}
 use Rattle.gain.specs.Levels.{level, first_level}
 use Rattle.sets.specs.Sets.{indices_in}
 use Rattle.sets.specs.declared.ParameterSet.{ParameterSet}
 use Rattle.sets.specs.declared.ParameterSet.TheVariants.{Unvoiced, Voiced}
-use Rattle.reading.specs.declared.Reading.{Reading}
-use Rattle.reading.specs.declared.Reading.TheVariants as reading
+use Rattle.reading.specs.declared.Accepted.{Accepted}
 use Rattle.receiver.specs.declared.Kind.{Kind}
 use Rattle.receiver.specs.declared.Kind.TheVariants as kind
 use Rattle.records.specs.declared.Record.{Record}
 use Rattle.receiver.specs.declared.FrameResult.{FrameResult}
-use Rattle.receiver.specs.declared.ReceiveAnswer.TheVariants.{Result, Refused}
 use Rattle.receiver.specs.declared.Received.{Received}
 use Rattle.records.specs.Records.{muted}
 use Rattle.receiver.specs.Next.{after_accepted, after_repeat}
@@ -47,22 +46,22 @@ repeated_result last g2 mute sync = record {
 -- what either yields and leaves: mute goes by the number of repeats with this frame among the kinds (document 02, T-06)
 unfoldable pub accepted : Record → Bool → ParameterSet → ℕ → Received
 accepted r sync set repaired = record {
-  answer = Result (accepted_result r.g2 (muted (after_accepted r set).repeats) sync set repaired);
+  answer = Ok (accepted_result r.g2 (muted (after_accepted r set).repeats) sync set repaired);
   next = after_accepted r set;
 }
 
 unfoldable pub repeated : Record → Bool → Received
 repeated r sync = record {
-  answer = Result (repeated_result r.last r.g2 (muted (after_repeat r).repeats) sync);
+  answer = Ok (repeated_result r.last r.g2 (muted (after_repeat r).repeats) sync);
   next = after_repeat r;
 }
 
 -- a frame that is not erased is accepted, an erased one is a repeat
-abbrev pub step : Record → Bool → Reading → Received
-step r sync (reading.Accepted set repaired) = accepted r sync set repaired
-step r sync reading.Erased = repeated r sync
+abbrev pub step : Record → Bool → Option Accepted → Received
+step r sync (Some x) = accepted r sync x.set x.repaired
+step r sync None = repeated r sync
 
--- refused: the number, and the record stays
-abbrev pub step_unless : ℕ → Record → Bool → Reading → Received
-step_unless zero r sync x = step r sync x
-step_unless (suc n) r sync x = record { answer = Refused (suc n); next = r }
+-- refused: what refuses it, and the record stays
+abbrev pub step_unless : Option Refusal → Record → Bool → Option Accepted → Received
+step_unless None r sync x = step r sync x
+step_unless (Some f) r sync x = record { answer = Err f; next = r }

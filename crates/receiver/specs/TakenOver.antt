@@ -1,5 +1,5 @@
 -- Document 02, T-06: what is claimed of a record that was taken over, and of one call with it, with or without confidences, in any order of the bits.
--- Nothing is asked of the old record or of the frame: what the old receiver refuses is refused with the same number. Lists of calls: `calls:TakenOver`.
+-- Nothing is asked of the old record or of the frame: what the old receiver refuses is refused alike. Lists of calls: `calls:TakenOver`.
 use Rattle.std.specs.Prelude.{ℕ, ◌≡◌, List}
 use Rattle.refusal.specs.Refusals.{first_refusal}
 use Rattle.records.specs.Records.{valid}
@@ -14,7 +14,7 @@ use Rattle.receiver.specs.OldReceiving.{OldReceived, old_receive, old_soft_recei
 abbrev pub in_step : OldReceived → Received
 in_step y = record { answer = y.answer; next = with_count y.next }
 
--- of the record itself: it is valid where the old one is, and refused with the number with which that is
+-- of the record itself: it is valid where the old one is, and refused with what refuses that
 module _ (old : OldRecord) where
   pub record TakenOverRecord : Type 0 where
     pub as_valid : valid (with_count old) ≡ valid_old old

@@ -4,17 +4,18 @@
 //   soft_receiving  the calls that are given a confidence for each place
 //   steps           what an accepted frame and a repeat yield
 //   next            the record that they leave
-//   levels          the levels of codes in range
+//   valid           a record that was tested
 #![tactic(auto)]
 
-mod levels;
 mod next;
 mod receiving;
 mod soft_receiving;
 mod steps;
+mod valid;
 
 pub use receiving::{receive, receive_in_place};
 use records::Record;
+use refusal::Refusal;
 use sets::ParameterSet;
 pub use soft_receiving::{receive_soft, receive_soft_in_place};
 
@@ -38,16 +39,9 @@ pub struct FrameResult {
     pub repaired: u8,
 }
 
-// A result, or the refusal.
-#[derive(Clone, Copy)]
-pub enum ReceiveAnswer {
-    Result(FrameResult),
-    Refused(u8),
-}
-
-// The answer and the next record.
+// The answer, and the next record, which is there after a refusal too.
 #[derive(Clone, Copy)]
 pub struct Received {
-    pub answer: ReceiveAnswer,
+    pub answer: Result<FrameResult, Refusal>,
     pub next: Record,
 }

@@ -2,28 +2,24 @@
 ghost use Rattle.std.specs.Prelude.{◌≡◌};
 ghost use Rattle.receiver.specs.SoftReceiving.{soft_receive};
 
-use crate::receiving::refuse;
-use crate::steps::step;
-use crate::{ReceiveAnswer, Received};
+use crate::receiving::{refuse, step_unless_refused};
+use crate::{FrameResult, Received};
 use order::soft_bits;
 use reading::read_soft;
-use records::{Record, is_valid};
+use records::Record;
+use refusal::Refusal;
 
-// A frame in an order and the confidences of its places: the answer, and the record after it. Refused: 2, not seven bytes; 10,
-// a list that is no order; 3, one of the last two bits set; 9, other than 54 confidences; 4, a record that is not valid.
+// A frame in an order and the confidences of its places: the answer, and the record after it. Refused: not seven bytes; a list
+// that is no order; one of the last two bits set; other than 54 confidences; a record that is not valid.
 pub fn receive_soft(rec: Record, frame: &[u8], order: &[u8], confidences: &[u8]) -> Received
     ensures { result ≡ soft_receive order.now rec frame.now confidences.now }
 {
-    let taken = soft_bits(frame, order, confidences);
-    if taken.refusal != 0 {
-        return refuse(rec, taken.refusal);
-    }
-    let known = taken.confidences;
-    let reading = read_soft(taken.bits, known);
-    if is_valid(rec) {
-        step(rec, taken.bits % 2 == 1, reading)
-    } else {
-        refuse(rec, 4)
+    match soft_bits(frame, order, confidences) {
+        Ok(taken) => {
+            let reading = read_soft(taken.bits, taken.confidences);
+            step_unless_refused(rec, taken.bits % 2 == 1, reading)
+        }
+        Err(refusal) => refuse(rec, refusal),
     }
 }
 
@@ -33,7 +29,7 @@ pub fn receive_soft_in_place(
     frame: &[u8],
     order: &[u8],
     confidences: &[u8],
-) -> ReceiveAnswer
+) -> Result<FrameResult, Refusal>
     ensures answer { result ≡ (soft_receive order.now rec.old frame.now confidences.now).answer }
     ensures record { rec.new ≡ (soft_receive order.now rec.old frame.now confidences.now).next }
 {
