@@ -1,8 +1,19 @@
 -- How far apart an order keeps the bits of each word and of the pitch code. Helpers of the contracts inside the burst width.
 use Rattle.std.specs.Prelude.{ℕ, ◌+◌, ◌-◌, Bool, not, cond, ◌&&◌, List, eqb, ltb, get_or}
 use Rattle.bits.specs.Lists.{every}
+use Rattle.bursts.specs.declared.width.Part.{Part}
+use Rattle.bursts.specs.declared.width.Part.TheVariants.{WordA, WordB, WordC, WordD, PitchCode, Other}
 
--- the part of a frame that a logical bit belongs to: 0 to 3 the words A to D, 4 the pitch code, 5 any other
+-- the number of a part: 0 to 3 the words A to D, 4 the pitch code, 5 any other
+abbrev pub number_of : Part → ℕ
+number_of WordA = 0
+number_of WordB = 1
+number_of WordC = 2
+number_of WordD = 3
+number_of PitchCode = 4
+number_of Other = 5
+
+-- the part of a frame that a logical bit belongs to, as its number
 abbrev pub part_of : ℕ → ℕ
 part_of j = cond (ltb j 8) 0 (cond (ltb j 14) 1 (cond (ltb j 21) 2 (cond (ltb j 28) 3 (cond (ltb j 35) 4 5))))
 
