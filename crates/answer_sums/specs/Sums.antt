@@ -1,6 +1,8 @@
 -- Helpers of a measurement, no part of document 01: all numbers that a frame is answered, added up, and a number in bytes.
-use Rattle.std.specs.Prelude.{ℕ, ◌+◌, ◌-◌, ◌/◌, ◌%◌, ◌^◌, List}
+use Rattle.std.specs.Prelude.{ℕ, ◌+◌, ◌-◌, ◌/◌, ◌%◌, ◌^◌, List, Result, Ok, Err}
 use Rattle.bits.specs.Bits.{bit_num, cut}
+use Rattle.refusal.specs.Refusals.{number_of}
+use Rattle.refusal.specs.declared.Refusal.{Refusal}
 use Rattle.sets.specs.declared.Indices.{Indices}
 use Rattle.sets.specs.declared.Voicing.{Voicing}
 use Rattle.sets.specs.declared.ParameterSet.{ParameterSet}
@@ -8,8 +10,6 @@ use Rattle.sets.specs.declared.ParameterSet.TheVariants as set
 use Rattle.receiver.specs.declared.Kind.{Kind}
 use Rattle.receiver.specs.declared.Kind.TheVariants as kind
 use Rattle.receiver.specs.declared.FrameResult.{FrameResult}
-use Rattle.receiver.specs.declared.ReceiveAnswer.{ReceiveAnswer}
-use Rattle.receiver.specs.declared.ReceiveAnswer.TheVariants.{Result, Refused}
 
 -- of a set
 abbrev pub indices_sum : Indices → ℕ
@@ -32,9 +32,9 @@ kind_sum kind.Repeat = 2
 abbrev pub result_sum : FrameResult → ℕ
 result_sum r = kind_sum r.kind + set_sum r.set + (r.first + r.second) + (bit_num r.mute + bit_num r.sync) + r.repaired
 
-abbrev pub answer_sum : ReceiveAnswer → ℕ
-answer_sum (Result r) = result_sum r
-answer_sum (Refused n) = n
+abbrev pub answer_sum : Result FrameResult Refusal → ℕ
+answer_sum (Ok r) = result_sum r
+answer_sum (Err f) = number_of f
 
 -- a number in eight bytes, most significant first
 abbrev pub eight_bytes : ℕ → List ℕ

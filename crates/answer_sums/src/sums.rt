@@ -1,9 +1,9 @@
 // What one answer adds to the sum: all its numbers. The bounds are those of their types.
 ghost use Rattle.std.specs.Prelude.{◌≡◌, ◌≤◌};
-ghost use Rattle.bits.specs.Bits.{bit_num};
 ghost use Rattle.answer_sums.specs.Sums.{indices_sum, voicing_sum, set_sum, kind_sum, result_sum, answer_sum};
 
-use receiver::{FrameResult, Kind, ReceiveAnswer};
+use receiver::{FrameResult, Kind};
+use refusal::Refusal;
 use sets::{Indices, ParameterSet, Voicing};
 
 // The indices of a set.
@@ -11,7 +11,12 @@ fn of_indices(x: Indices) -> u64
     ensures number { result ≡ indices_sum x }
     ensures bound { result ≤ 1530 }
 {
-    x.l1 as u64 + x.l2 as u64 + x.l3 as u64 + x.l4 as u64 + x.g2 as u64 + x.g1 as u64
+    u64::from(x.l1)
+        + u64::from(x.l2)
+        + u64::from(x.l3)
+        + u64::from(x.l4)
+        + u64::from(x.g2)
+        + u64::from(x.g1)
 }
 
 // What a voiced set has more.
@@ -19,7 +24,7 @@ fn of_voicing(v: Voicing) -> u64
     ensures number { result ≡ voicing_sum v }
     ensures bound { result ≤ 1020 }
 {
-    v.pitch as u64 + v.bandpass as u64 + v.fourier as u64 + v.aperiodic as u64
+    u64::from(v.pitch) + u64::from(v.bandpass) + u64::from(v.fourier) + u64::from(v.aperiodic)
 }
 
 // A set: all its numbers.
@@ -45,33 +50,23 @@ fn of_kind(kind: Kind) -> u64
     }
 }
 
-// A flag: 1 where it is set.
-fn of_flag(b: bool) -> u64
-    ensures number { result ≡ bit_num b }
-    ensures bound { result ≤ 1 }
-{
-    if b { 1 } else { 0 }
-}
-
 // A result: all its numbers.
 fn of_result(res: FrameResult) -> u64
     ensures number { result ≡ result_sum res }
     ensures bound { result ≤ 10000000000 }
 {
-    let kind = res.kind;
-    let set = res.set;
-    let levels = res.first as u64 + res.second as u64;
-    let flags = of_flag(res.mute) + of_flag(res.sync);
-    of_kind(kind) + of_set(set) + levels + flags + res.repaired as u64
+    let levels = u64::from(res.first) + u64::from(res.second);
+    let flags = u64::from(res.mute) + u64::from(res.sync);
+    of_kind(res.kind) + of_set(res.set) + levels + flags + u64::from(res.repaired)
 }
 
 // An answer: the numbers of its result, or its refusal.
-pub fn of_answer(answer: ReceiveAnswer) -> u64
+pub fn of_answer(answer: Result<FrameResult, Refusal>) -> u64
     ensures number { result ≡ answer_sum answer }
     ensures bound { result ≤ 10000000000 }
 {
     match answer {
-        ReceiveAnswer::Result(result) => of_result(result),
-        ReceiveAnswer::Refused(n) => n as u64,
+        Ok(res) => of_result(res),
+        Err(refusal) => u64::from(refusal.number()),
     }
 }
