@@ -9,6 +9,9 @@ use lib.ListN.{length, take}
 use lib.Seq.{take_all, length-take-le}
 use borrow.Author.Tests.{leb-true, leb-false}
 use Rattle.bits.specs.Lists.{ReadFrom}
+use Rattle.std.specs.Prelude.{Option, Some}
+use Rattle.refusal.specs.declared.Refusal.{Refusal}
+use Rattle.refusal.specs.declared.Refusal.TheVariants.{FrameLength}
 use Rattle.session.specs.Writing.{is_whole}
 use Rattle.session.proofs.Frames.{whole_parts}
 use Rattle.to_session.specs.Output.{most_input, refusal_of, file_unless, message_if, file, message}
@@ -21,8 +24,8 @@ long_not_whole input h = go (is_whole input) refl
     go true e = absurd (omega (arith, whole_parts input e))
     go false e = refl
 
--- so it is refused with 2
-long_refused : (input : List ℕ) → most_input ≤ length input → refusal_of input ≡ 2
+-- so it is refused for its length
+long_refused : (input : List ℕ) → most_input ≤ length input → refusal_of input ≡ Some FrameLength
 long_refused input h = rw (long_not_whole input h) refl
 
 -- the file and the message of as many bytes as are read are those of the input
@@ -34,7 +37,7 @@ refusal_front input = go (leb most_input (length input)) refl
         let h = leb-true most_input (length input) e in
         let a = long_refused (take most_input input) (omega (arith, length-take-le most_input input h)) in
         let b = long_refused input h in (
-          ap (λ (n : ℕ). file_unless n (take most_input input)) a ∙ ap (λ (n : ℕ). file_unless n input) (sym b),
+          ap (λ (r : Option Refusal). file_unless r (take most_input input)) a ∙ ap (λ (r : Option Refusal). file_unless r input) (sym b),
           ap message_if a ∙ ap message_if (sym b),
         )
     go false e =

@@ -4,32 +4,36 @@ ghost use Rattle.std.specs.Counts.{IsPrefixLen};
 ghost use Rattle.session.specs.Format.{most_text};
 ghost use Rattle.to_session.specs.Output.{most_input, AllWritten};
 
-use text::{LineAnswer, end_of};
-
-// Where the file ends, and the line of a refusal.
-#[derive(Clone, Copy)]
-pub(crate) struct Ends {
-    pub(crate) file: usize,
-    pub(crate) message: usize,
+// The file, and the line of a refusal.
+#[derive(Clone, Copy, Debug, PartialEq, Eq)]
+pub(crate) struct Written<'a> {
+    pub(crate) file: &'a [u8],
+    pub(crate) message: &'a [u8],
 }
 
-// The file and the line for the standard input of which the first `size` bytes of a buffer were read.
-pub(crate) fn write_file(input: &[u8], size: usize, file: &mut [u8], message: &mut [u8]) -> Ends
+// The file and the line for the standard input of which the first `size` bytes of a buffer were read. The buffer comes whole, since
+// its length says how much of a long input was read: `most_input` holds `main` to it.
+pub(crate) fn write_file<'a>(
+    input: &[u8],
+    size: usize,
+    file: &'a mut [u8],
+    message: &'a mut [u8],
+) -> Written<'a>
     requires input_len { (length input.now ≡ most_input) × IsPrefixLen size input.now }
     requires file_len { (length file.old ≡ most_text) × (length message.old ≡ 22) }
-    ensures file { IsPrefixLen result.file file.new }
-    ensures message { IsPrefixLen result.message message.new }
-    ensures written { AllWritten input.now size file.new result.file message.new result.message }
+    ensures { AllWritten input.now size result.file.now result.message.now }
 {
-    let answer = session::write(&input[..size], file);
-    match answer {
-        LineAnswer::Written(end) => Ends {
-            file: end,
-            message: 0,
+    match session::write(&input[..size], file) {
+        Ok(end) => Written {
+            file: &file[..end],
+            message: &[],
         },
-        LineAnswer::Refused(n) => Ends {
-            file: 0,
-            message: end_of(value_lines::refusal_line(n, message, 0), 0),
-        },
+        Err(refusal) => {
+            let end = value_lines::refusal_line(refusal.number(), message, 0).unwrap_or(0);
+            Written {
+                file: &[],
+                message: &message[..end],
+            }
+        }
     }
 }

@@ -15,7 +15,7 @@ fn main(rt: HostRuntime) -> io::Result<()> {
     let size = console::read_full(&mut rt.stdin(), &mut input)?;
     let mut file = [0u8; 34034];
     let mut message = [0u8; 22];
-    let ends = files::write_file(&input, size, &mut file, &mut message);
-    rt.stdout().write_all(&file[..ends.file])?;
-    rt.stderr().write_all(&message[..ends.message])
+    let written = files::write_file(&input, size, &mut file, &mut message);
+    rt.stdout().write_all(written.file)?;
+    rt.stderr().write_all(written.message)
 }

@@ -1,24 +1,40 @@
 -- `to_session::files::write_file` meets its contract: the writer's answer says where the file ends, or which number is told. Assumes nothing.
+use mathlib.Core.Path.{ap, ◌∙◌}
+use Prim.Native.Nat.{◌≤◌}
 use native.Mathlib.Omega.{arith}
+use lib.ListN.{take, length-take}
+use Rattle.text.specs.Placing.{Appended}
 use Rattle.text.proofs.Additions.{line_added}
 use Rattle.value_lines.specs.Lines.{refusal_line}
-use Rattle.to_session.proofs.Answers.{text_owes, refusal_owes}
+use Rattle.to_session.proofs.Answers.{text_is, text_owes, refusal_owes}
 use Rattle.to_session.proofs.files.write_file.Goals as goal
+use Rattle.to_session.proofs.files.write_file.Goals.{After-unwrap_or-end}
 
-pub returns-in-Written : goal.returns-in-Written
-returns-in-Written c =
+pub slice_bounds-result-end : goal.slice_bounds-result-end
+slice_bounds-result-end c =
     let a = c.args in
-    let w = c.write-answer in
-    let p = text_owes a.input.now a.size c.requires.input_len.0 a.file.now c.requires.file_len.0 _ _ (w.ensures.answer, w.ensures.written) _ c.in-Written.is a.message.now in
-    record { file = p.0; message = p.1.0; written = p.1.1 }
+    let q = text_is (take a.size a.input.now) a.file.now c.requires.file_len.0 _ _ (c.write.ensures.answer, c.write.ensures.written) _ c.in-Ok.is in
+    simp length-take (omega (arith, q.0))
 
-pub returns-in-Refused : goal.returns-in-Refused
-returns-in-Refused c =
+pub returns-in-Ok : goal.returns-in-Ok
+returns-in-Ok c =
     let a = c.args in
-    let w = c.write-answer in
+    text_owes a.input.now a.size c.requires.input_len.0 a.file.now c.requires.file_len.0 _ _ (c.write.ensures.answer, c.write.ensures.written) _ c.in-Ok.is
+
+-- the line of the refusal is added to nothing
+told : (c : After-unwrap_or-end) → Appended c.args.message.now 0 (refusal_line c.number.result) c.refusal_line.new.out c.unwrap_or-end.result × (c.unwrap_or-end.result ≤ 22)
+told c =
     let l = c.refusal_line in
-    let n = c.in-Refused.n in
-    let q = line_added (refusal_line n) a.message.now _ 0 22 _ _ (l.ensures.answer, (l.ensures.written, l.ensures.bound)) c.end_of.ensures (omega (arith, c.requires.file_len)) in
-    let p = refusal_owes a.input.now a.size c.requires.input_len.0 a.file.now c.requires.file_len.0 _ _ (w.ensures.answer, w.ensures.written) n c.in-Refused.is _ _ q.0.1
-    (omega (arith, q.1, l.auto.out)) in
-    record { file = p.0; message = p.1.0; written = p.1.1 }
+    line_added (refusal_line c.number.result) c.args.message.now _ 0 22 _ _ (l.ensures.answer, (l.ensures.written, l.ensures.bound)) c.unwrap_or-end.ensures (omega (arith, c.requires.file_len.1))
+
+pub slice_bounds-result-end-in-Err-2 : goal.slice_bounds-result-end-in-Err-2
+slice_bounds-result-end-in-Err-2 c =
+    let q = told (goal.at.slice_bounds-result-end-in-Err-2 c).After-unwrap_or-end in
+    simp length-take (omega (arith, q.1, c.refusal_line.auto.out, c.requires.file_len.1))
+
+pub returns-in-Err : goal.returns-in-Err
+returns-in-Err c input read =
+    let a = c.args in
+    let q = told (goal.at.returns-in-Err c).After-unwrap_or-end in
+    let o = refusal_owes a.input.now a.size c.requires.input_len.0 a.file.now c.requires.file_len.0 _ _ (c.write.ensures.answer, c.write.ensures.written) _ c.in-Err.is input read in
+    (o.0, q.0.1 ∙ ap refusal_line c.number.ensures ∙ o.1)
