@@ -34,10 +34,10 @@ pub packed_only : (ord : List ℕ) (set : ParameterSet) (room : ℕ) → pack_re
 packed_only ord set room e = go (ltb room 7) (is_order ord) (sendable set) refl refl e
   where
     go : (a b c : Bool) → is_order ord ≡ b → sendable set ≡ c → first_refusal ((a, ShortOutput) ∷ (not b, InvalidOrder) ∷ (not c, OutOfRange) ∷ []) ≡ None → Order ord × T (sendable set)
-    go true b c f g z = search
+    go true b c f g z = absurd (cc z)
     go false true true f g z = (is_order_only ord (T_true (is_order ord) f), subst T (sym g) tt)
-    go false true false f g z = search
-    go false false c f g z = search
+    go false true false f g z = absurd (cc z)
+    go false false c f g z = absurd (cc z)
 
 -- the value in an answer, and a given one where there is none
 value_or : {A : Type 0} → A → Answer A → A
