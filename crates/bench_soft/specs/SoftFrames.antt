@@ -1,9 +1,10 @@
 -- Helpers of a measurement, no part of document 02: frames of seven bytes that stand one after another, each with its 54 confidences after it;
 -- what a receiver that starts fresh makes of each, in one order; and all numbers that they are answered, added up.
-use Rattle.std.specs.Prelude.{ℕ, zero, suc, ◌+◌, ◌*◌, ◌/◌, List, length, take, drop}
+use Rattle.std.specs.Prelude.{ℕ, zero, suc, ◌+◌, ◌*◌, ◌/◌, List, length, take, drop, Result}
+use Rattle.refusal.specs.declared.Refusal.{Refusal}
 use Rattle.records.specs.declared.Record.{Record}
 use Rattle.records.specs.Records.{fresh}
-use Rattle.receiver.specs.declared.ReceiveAnswer.{ReceiveAnswer}
+use Rattle.receiver.specs.declared.FrameResult.{FrameResult}
 use Rattle.receiver.specs.SoftReceiving.{soft_receive}
 use Rattle.answer_sums.specs.Sums.{answer_sum}
 
@@ -25,7 +26,7 @@ record_after ord bytes zero = fresh
 record_after ord bytes (suc k) = (soft_receive ord (record_after ord bytes k) (frame_at bytes k) (confidences_at bytes k)).next
 
 -- what frame k is answered
-unfoldable pub answer_at : List ℕ → List ℕ → ℕ → ReceiveAnswer
+unfoldable pub answer_at : List ℕ → List ℕ → ℕ → Result FrameResult Refusal
 answer_at ord bytes k = (soft_receive ord (record_after ord bytes k) (frame_at bytes k) (confidences_at bytes k)).answer
 
 -- the sum of what the first k frames are answered
