@@ -5,14 +5,13 @@ use Prim.Native.Nat.{ℕ, suc, ◌+◌, ◌-◌, ◌*◌, ◌≤◌, ◌<◌}
 use native.Mathlib.Omega.{arith}
 use lib.ListN.{length, take, drop, length-append, take-append-drop}
 use lib.Seq.{length-take-le, take_at, drop_at, drop-drop}
+use Rattle.std.specs.Prelude.{None, Some, Ok, Err}
 use Rattle.text.specs.Placing.{written}
 use Rattle.text.proofs.Writes.{written_length}
 use Rattle.session.specs.Format.{most_frames}
 use Rattle.session.specs.Writing.{joined}
-use Rattle.session_reader.specs.Steps.{step_at}
+use Rattle.session_reader.specs.Steps.{Answer, step_at}
 use Rattle.session_claims.specs.Reading.{Reading, and_then, ends_by, onward, reading_from, reading}
-use Rattle.session_reader.specs.declared.Answer.{Answer}
-use Rattle.session_reader.specs.declared.Answer.TheVariants.{Frame, End, Refused}
 use Rattle.session_reader.specs.declared.Step.{Step}
 
 -- what is to come after k frames
@@ -62,31 +61,30 @@ module _ (text out₀ : List ℕ) (at k : ℕ) (out : List ℕ) (s : SoFar text 
 
     module _ (more : k < most_frames) where
       -- what is to come, by the step
-      next_is : to_come text at k ≡ onward step.answer step.frame (to_come text step.at (suc k))
+      next_is : to_come text at k ≡ onward step.answer (to_come text step.at (suc k))
       unfolding reading_from
       next_is =
           let n : most_frames - k ≡ suc (most_frames - suc k) = omega arith in
-          ap (λ (m : ℕ). reading_from m text at) n ∙ ap (λ (t : Step). onward t.answer t.frame (to_come text t.at (suc k))) (sym is)
+          ap (λ (m : ℕ). reading_from m text at) n ∙ ap (λ (t : Step). onward t.answer (to_come text t.at (suc k))) (sym is)
 
       -- a step without a frame ends them
-      pub stop_owes : (step.answer ≡ Frame → ⊥) → Owed text out₀ step.answer (7 * k) out
+      pub stop_owes : ((frame : List ℕ) → step.answer ≡ Ok (Some frame) → ⊥) → Owed text out₀ step.answer (7 * k) out
       stop_owes h = end_owes step.answer (next_is ∙ go step.answer h)
         where
-          go : (answer : Answer) → (answer ≡ Frame → ⊥) → onward answer step.frame (to_come text step.at (suc k)) ≡ ends_by answer
-          go Frame h = absurd (h refl)
-          go End h = refl
-          go (Refused n line) h = refl
+          go : (answer : Answer) → ((frame : List ℕ) → answer ≡ Ok (Some frame) → ⊥) → onward answer (to_come text step.at (suc k)) ≡ ends_by answer
+          go (Ok (Some frame)) h = absurd (h frame refl)
+          go (Ok None) h = refl
+          go (Err r) h = refl
 
       -- a frame more
-      pub frame_more : step.answer ≡ Frame → length step.frame ≡ 7 → (after : List ℕ) → after ≡ written step.frame (7 * k) out
+      pub frame_more : (f : List ℕ) → step.answer ≡ Ok (Some f) → length f ≡ 7 → (after : List ℕ) → after ≡ written f (7 * k) out
           → SoFar text out₀ step.at (suc k) after
       unfolding joined
-      frame_more e seven after w =
+      frame_more f e seven after w =
           let p = take (7 * k) out in
-          let f = step.frame in
           let back = drop (7 * k + length f) out in
           let later = to_come text step.at (suc k) in
-          let next : to_come text at k ≡ and_then f later = next_is ∙ ap (λ (a : Answer). onward a f later) e in
+          let next : to_come text at k ≡ and_then f later = next_is ∙ ap (λ (a : Answer). onward a later) e in
           let n : length (p ++ f) ≡ 7 * suc k = omega (arith, length-append p f, length-take-le (7 * k) out fits, seven) in
           let seam : 7 * k + length f ≡ 7 * k + 7 = omega (arith, seven) in
           let end : 7 * k + 7 ≡ 7 * suc k = omega arith in

@@ -1,12 +1,12 @@
 -- Document 02, T-01, and its program `from_session`: what goes to standard output and to standard error for the session file on standard input.
-use Rattle.std.specs.Prelude.{ℕ, ◌+◌, ◌≡◌, List, [], ◌++◌, take}
+use Rattle.std.specs.Prelude.{ℕ, ◌+◌, ◌≡◌, List, [], ◌++◌, take, Ok, Err}
 use Rattle.bits.specs.Lists.{ReadFrom}
+use Rattle.refusal.specs.Refusals.{number_of}
 use Rattle.text.specs.Text.{ascii, decimal, field}
 use Rattle.session.specs.Format.{most_text}
 use Rattle.session.specs.Writing.{joined}
 use Rattle.session_claims.specs.Reading.{reading}
-use Rattle.session_reader.specs.declared.Answer.{Answer}
-use Rattle.session_reader.specs.declared.Answer.TheVariants.{Frame, End, Refused}
+use Rattle.session_reader.specs.Steps.{Answer}
 
 -- as many bytes as are read: one more than the longest file has
 abbrev pub most_input : ℕ
@@ -22,9 +22,8 @@ refusal_line n line = field "refused=" (decimal n) ++ (field " line=" (decimal l
 
 -- nothing where there is none
 abbrev pub message_of : Answer → List ℕ
-message_of Frame = []
-message_of End = []
-message_of (Refused n line) = refusal_line n line
+message_of (Ok frame) = []
+message_of (Err r) = refusal_line (number_of r.refusal) r.line
 
 abbrev pub message : List ℕ → List ℕ
 message input = message_of (reading input).answer

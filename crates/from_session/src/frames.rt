@@ -1,27 +1,16 @@
 // The frames of a session file.
-ghost use Rattle.std.specs.Prelude.{◌≡◌, ◌++◌, ◌+◌, ◌*◌, ◌≤◌, length, drop};
-ghost use Rattle.text.specs.Placing.{written};
+ghost use Rattle.std.specs.Prelude.{◌≡◌, ◌++◌, ◌*◌, ◌≤◌, length, drop};
 ghost use Rattle.session.specs.Format.{most_frames};
 ghost use Rattle.session.specs.Writing.{joined};
 ghost use Rattle.session_claims.specs.Reading.{reading};
 
-use session_reader::Answer;
+use session_reader::LineRefusal;
 
 // Where the frames end, and the answer of the reader after them.
 #[derive(Clone, Copy)]
 pub(crate) struct Copied {
     pub(crate) end: usize,
-    pub(crate) answer: Answer,
-}
-
-// A frame to its place.
-fn put_frame(frame: [u8; 7], out: &mut [u8], at: usize)
-    requires { at + 7 ≤ length out.old }
-    ensures { out.new ≡ written frame at out.old }
-{
-    for i in 0..7 {
-        out[at + i] = frame[i];
-    }
+    pub(crate) answer: Result<Option<[u8; 7]>, LineRefusal>,
 }
 
 // The frames of a text to the front of `out`, until the reader hands on none.
@@ -35,14 +24,12 @@ pub(crate) fn copy_frames(text: &[u8], out: &mut [u8]) -> Copied
     for k in 0..2000 {
         let step = session_reader::read_at(text, at);
         let answer = step.answer;
-        let Answer::Frame = answer else {
+        let Ok(Some(frame)) = answer else {
             return Copied { end: 7 * k, answer };
         };
-        let frame = step.frame;
-        put_frame(frame, out, 7 * k);
+        out[7 * k..7 * k + 7].copy_from_slice(&frame);
         at = step.at;
     }
-    let step = session_reader::read_at(text, at);
-    let answer = step.answer;
+    let answer = session_reader::read_at(text, at).answer;
     Copied { end: 14000, answer }
 }

@@ -3,11 +3,12 @@ ghost use Rattle.std.specs.Prelude.{◌≡◌, ◌≤◌, ◌*◌, length};
 ghost use Rattle.std.specs.Counts.{IsPrefixLen};
 ghost use Rattle.text.specs.Placing.{Put};
 ghost use Rattle.session.specs.Format.{most_frames};
+ghost use Rattle.refusal.specs.Refusals.{number_of};
 ghost use Rattle.from_session.specs.Output.{most_input, refusal_line, AllWritten};
 
 use crate::frames::copy_frames;
-use session_reader::Answer;
-use text::{Name, end_of, number, place};
+use session_reader::LineRefusal;
+use text::{Name, byte, number, place};
 
 const REFUSED: Name = *b"refused=........";
 
@@ -21,13 +22,13 @@ pub(crate) struct Ends {
 }
 
 // The line of a refusal; where it ends.
-fn write_message(n: u8, line: u16, out: &mut [u8]) -> usize
+fn write_message(refused: LineRefusal, out: &mut [u8]) -> usize
     requires { 60 ≤ length out.old }
-    ensures { Put out.old 0 (refusal_line n line) out.new result }
+    ensures { Put out.old 0 (refusal_line (number_of refused.refusal) refused.line) out.new result }
 {
-    let numbered = end_of(number(REFUSED, 8, n as u64, out, 0), 0);
-    let end = end_of(number(LINE, 6, line as u64, out, numbered), numbered);
-    end_of(place(b"\n", out, end), end)
+    let numbered = byte(REFUSED, 8, refused.refusal.number(), out, 0).unwrap_or(0);
+    let end = number(LINE, 6, u64::from(refused.line), out, numbered).unwrap_or(numbered);
+    place(b"\n", out, end).unwrap_or(end)
 }
 
 // The frames and the line for the standard input of which the first `size` bytes of a buffer were read.
@@ -39,19 +40,11 @@ pub(crate) fn read_file(input: &[u8], size: usize, out: &mut [u8], message: &mut
     ensures written { AllWritten input.now size out.new result.frames message.new result.message }
 {
     let copied = copy_frames(&input[..size], out);
-    let answer = copied.answer;
-    match answer {
-        Answer::Refused(n, line) => Ends {
-            frames: copied.end,
-            message: write_message(n, line, message),
-        },
-        Answer::End => Ends {
-            frames: copied.end,
-            message: 0,
-        },
-        Answer::Frame => Ends {
-            frames: copied.end,
-            message: 0,
+    Ends {
+        frames: copied.end,
+        message: match copied.answer {
+            Ok(_) => 0,
+            Err(refused) => write_message(refused, message),
         },
     }
 }

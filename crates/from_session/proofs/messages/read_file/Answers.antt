@@ -1,23 +1,21 @@
 -- `from_session::messages::read_file` meets its contract: the frames are copied, and the answer after them says what is told. Assumes nothing.
-use mathlib.Core.Path.{refl}
-use Rattle.session_reader.specs.declared.Answer.TheVariants.{Frame, End}
-use Rattle.from_session.proofs.Answers.{refusal_owes, other_owes}
+use mathlib.Core.Path.{sym, ap, ◌∙◌}
+use Rattle.refusal.specs.Refusals.{number_of}
+use Rattle.text.proofs.Puts.{front_is}
+use Rattle.from_session.specs.Output.{refusal_line, message_of}
+use Rattle.from_session.proofs.Answers.{told_owes}
 use Rattle.from_session.proofs.messages.read_file.Goals as goal
 
-pub returns-in-Refused : goal.returns-in-Refused
-returns-in-Refused c =
+pub returns-in-Ok-clause-written : goal.returns-in-Ok-clause-written
+returns-in-Ok-clause-written c =
     let a = c.args in
-    let p = refusal_owes a.input.now a.size c.requires.input_len.0 a.out.now _ _ _ (c.copy_frames-copied.ensures.answer, (c.copy_frames-copied.ensures.end, c.copy_frames-copied.ensures.frames)) _ _ c.in-Refused.is a.message.now _ _ c.write_message.ensures in
-    record { frames = p.0; message = p.1.0; written = p.1.1 }
+    let copied = c.copy_frames-copied.ensures in
+    told_owes a.input.now a.size c.requires.input_len.0 a.out.now _ _ _ (copied.answer, (copied.end, copied.frames)) a.message.now 0 (ap message_of (sym c.in-Ok.is))
 
-pub returns-in-End : goal.returns-in-End
-returns-in-End c =
+pub returns-in-Err-clause-written : goal.returns-in-Err-clause-written
+returns-in-Err-clause-written c =
     let a = c.args in
-    let p = other_owes a.input.now a.size c.requires.input_len.0 a.out.now _ _ _ (c.copy_frames-copied.ensures.answer, (c.copy_frames-copied.ensures.end, c.copy_frames-copied.ensures.frames)) End refl c.in-End.is a.message.now in
-    record { frames = p.0; message = p.1.0; written = p.1.1 }
-
-pub returns-in-Frame : goal.returns-in-Frame
-returns-in-Frame c =
-    let a = c.args in
-    let p = other_owes a.input.now a.size c.requires.input_len.0 a.out.now _ _ _ (c.copy_frames-copied.ensures.answer, (c.copy_frames-copied.ensures.end, c.copy_frames-copied.ensures.frames)) Frame refl c.in-Frame.is a.message.now in
-    record { frames = p.0; message = p.1.0; written = p.1.1 }
+    let copied = c.copy_frames-copied.ensures in
+    let r = c.in-Err.refused in
+    let told = front_is a.message.now _ _ (refusal_line (number_of r.refusal) r.line) c.write_message.ensures in
+    told_owes a.input.now a.size c.requires.input_len.0 a.out.now _ _ _ (copied.answer, (copied.end, copied.frames)) _ _ (told ∙ ap message_of (sym c.in-Err.is))
