@@ -58,12 +58,8 @@ fn read_retrying<R: Read>(input: &mut R, buf: &mut [u8]) -> io::Result<usize>
 {
     for _ in 0..u64::MAX {
         match input.read(buf) {
-            Ok(n) => return Ok(n),
-            Err(e) => {
-                if e.kind() != ErrorKind::Interrupted {
-                    return Err(e);
-                }
-            }
+            Err(e) if e.kind() == ErrorKind::Interrupted => {}
+            answer => return answer,
         }
     }
     Err(io::Error::from(ErrorKind::TimedOut))
@@ -93,12 +89,8 @@ fn write_retrying<W: Write>(to: &mut W, bytes: &[u8]) -> io::Result<usize>
 {
     for _ in 0..u64::MAX {
         match to.write(bytes) {
-            Ok(n) => return Ok(n),
-            Err(e) => {
-                if e.kind() != ErrorKind::Interrupted {
-                    return Err(e);
-                }
-            }
+            Err(e) if e.kind() == ErrorKind::Interrupted => {}
+            answer => return answer,
         }
     }
     Err(io::Error::from(ErrorKind::TimedOut))
