@@ -28,7 +28,7 @@ pub fn read_full<R: Read>(input: &mut R, buf: &mut [u8]) -> io::Result<usize>
 {
     let mut done = 0;
     while done < buf.len() {
-        let n = read_at(input, buf, done)?;
+        let n = read_retrying(input, &mut buf[done..])?;
         if n == 0 {
             break;
         }
@@ -37,19 +37,8 @@ pub fn read_full<R: Read>(input: &mut R, buf: &mut [u8]) -> io::Result<usize>
     Ok(done)
 }
 
-// One read, to the place `at` of the buffer.
-fn read_at<R: Read>(input: &mut R, buf: &mut [u8], at: usize) -> io::Result<usize>
-    requires { at < length buf.old }
-    ensures len { length buf.new ≡ length buf.old }
-    ensures front { take at buf.new ≡ take at buf.old }
-    ensures fits { IfOk result (λ n. at + n ≤ length buf.new) }
-    ensures bytes { IfOk result (λ n. Consumes (R.remaining input.old) (R.remaining input.new) (take n (drop at buf.new))) }
-    ensures end { IfOk result (λ n. n ≡ 0 → IsAtEnd (R.remaining input.new)) }
-{
-    read_retrying(input, &mut buf[at..])
-}
-
-// One read, again where a signal cut it short.
+// One read, again where a signal cut it short. It is not made one with `write_retrying` by a closure: a proof would know nothing of
+// what a closure left of the input and the buffer that it borrowed, of which the clauses speak.
 fn read_retrying<R: Read>(input: &mut R, buf: &mut [u8]) -> io::Result<usize>
     ensures size { IfOk result (λ n. IsPrefixLen n buf.new) }
     ensures len { length buf.new ≡ length buf.old }
