@@ -1,5 +1,7 @@
 -- Document 01, "Program hear": its lines.
-use Rattle.std.specs.Prelude.{ℕ, Bool, true, false, List, ◌++◌}
+use Rattle.std.specs.Prelude.{ℕ, Bool, true, false, List, ◌++◌, Result, Ok, Err}
+use Rattle.refusal.specs.Refusals.{number_of}
+use Rattle.refusal.specs.declared.Refusal.{Refusal}
 use Rattle.sets.specs.Sets.{indices_in}
 use Rattle.sets.specs.declared.Indices.{Indices}
 use Rattle.sets.specs.declared.ParameterSet.{ParameterSet}
@@ -8,8 +10,6 @@ use Rattle.receiver.specs.declared.FrameResult.{FrameResult}
 use Rattle.receiver.specs.declared.Kind.{Kind}
 use Rattle.receiver.specs.declared.Kind.TheVariants.{Repeat}
 use Rattle.receiver.specs.declared.Kind.TheVariants.{Unvoiced as Kind-as-Unvoiced, Voiced as Kind-as-Voiced}
-use Rattle.receiver.specs.declared.ReceiveAnswer.{ReceiveAnswer}
-use Rattle.receiver.specs.declared.ReceiveAnswer.TheVariants.{Result, Refused}
 use Rattle.text.specs.Text.{ascii, decimal, field}
 
 -- the first line: the grains in a dB, and the order of the bits
@@ -56,12 +56,12 @@ result_text r =
     ++ field " mute=" (flag r.mute)
 
 -- what a frame was answered
-abbrev pub answer_text : ReceiveAnswer → List ℕ
-answer_text (Result r) = result_text r
-answer_text (Refused n) = field " refused=" (decimal n)
+abbrev pub answer_text : Result FrameResult Refusal → List ℕ
+answer_text (Ok r) = result_text r
+answer_text (Err f) = field " refused=" (decimal (number_of f))
 
 -- the line of frame k
-unfoldable pub frame_line : ℕ → ReceiveAnswer → List ℕ
+unfoldable pub frame_line : ℕ → Result FrameResult Refusal → List ℕ
 frame_line k answer = field "frame=" (decimal k) ++ answer_text answer ++ ascii "\n"
 
 -- the last line: how many frames, how many of them repeats, how many bytes after the last whole frame

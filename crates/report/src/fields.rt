@@ -31,7 +31,7 @@ const FIXED: Name = *b" sync=. fixed=..";
 
 const MUTE: Name = *b" mute=.\n........";
 
-// The letter of a kind.
+// The letter of a kind. No `From`, since neither `Kind` nor `u8` is a type of this crate.
 fn letter_of(kind: Kind) -> u8
     ensures { (result ∷ []) ≡ letter kind }
 {
@@ -46,19 +46,15 @@ fn letter_of(kind: Kind) -> u8
 fn flag_of(set: bool) -> u8
     ensures { (result ∷ []) ≡ flag set }
 {
-    if set {
-        return b'1';
-    }
-    b'0'
+    b'0' + u8::from(set)
 }
 
 // Two parts in one name: the letter of the first is its seventh byte.
-fn with_letter(name: Name, letter: u8) -> Name
+fn with_letter(mut name: Name, letter: u8) -> Name
     ensures { result ≡ set name 6 letter }
 {
-    let mut whole = name;
-    whole[6] = letter;
-    whole
+    name[6] = letter;
+    name
 }
 
 // The four LSF indices.
@@ -119,7 +115,7 @@ pub(crate) fn write_result(res: FrameResult, line: &mut [u8], at: usize) -> usiz
     let kind = res.kind;
     let set = res.set;
     let mut end = write_set(letter_of(kind), set, line, at);
-    end = put_number(FIRST, 4, res.first as u64, line, end);
-    end = put_number(SECOND, 4, res.second as u64, line, end);
+    end = put_number(FIRST, 4, u64::from(res.first), line, end);
+    end = put_number(SECOND, 4, u64::from(res.second), line, end);
     write_state(res.sync, res.repaired, res.mute, line, end)
 }

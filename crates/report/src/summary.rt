@@ -4,7 +4,8 @@ ghost use Rattle.text.specs.Placing.{place_answer, place_writes};
 ghost use Rattle.report.specs.Lines.{first_line, last_line};
 
 use crate::parts::put_number;
-use text::{LineAnswer, Name};
+use refusal::Refusal;
+use text::Name;
 
 const FRAMES: Name = *b"frames=.........";
 
@@ -12,16 +13,22 @@ const REPEATS: Name = *b" repeats=.......";
 
 const LEFT: Name = *b" left=..........";
 
-// The first line, to `at` and on. Refused: 1, the buffer ends before the line.
-pub fn first_line(out: &mut [u8], at: usize) -> LineAnswer
+// The first line, to `at` and on. Refused: the buffer ends before the line.
+pub fn first_line(out: &mut [u8], at: usize) -> Result<usize, Refusal>
     ensures answer { result ≡ place_answer first_line at (length out.old) }
     ensures written { out.new ≡ place_writes first_line at out.old }
 {
     text::place(b"grain=186 order=house\n", out, at)
 }
 
-// The last line, to `at` and on; it has at most 144 bytes. Refused: 1, the buffer ends before the line.
-pub fn last_line(frames: u64, repeats: u64, left: u64, out: &mut [u8], at: usize) -> LineAnswer
+// The last line, to `at` and on; it has at most 144 bytes. Refused: the buffer ends before the line.
+pub fn last_line(
+    frames: u64,
+    repeats: u64,
+    left: u64,
+    out: &mut [u8],
+    at: usize,
+) -> Result<usize, Refusal>
     ensures answer { result ≡ place_answer (last_line frames repeats left) at (length out.old) }
     ensures written { out.new ≡ place_writes (last_line frames repeats left) at out.old }
     ensures bound { length (last_line frames repeats left) ≤ 144 }

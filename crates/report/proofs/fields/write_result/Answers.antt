@@ -21,8 +21,8 @@ returns c =
     let mute = field " mute=" (flag r.mute) in
     let first : r.first < 2 ^ 32 = omega arith in
     let second : r.second < 2 ^ 32 = omega arith in
-    let g1 = level_part _ _ _ _ (ascii " g1=") r.first first c.put_number-end.ensures.put in
-    let g2 = level_part _ _ _ _ (ascii " g2=") r.second second c.put_number-end-2.ensures.put in
+    let g1 = level_part _ _ _ _ (ascii " g1=") r.first first (rw c.from.ensures at c.put_number-end.ensures.put) in
+    let g2 = level_part _ _ _ _ (ascii " g2=") r.second second (rw c.from-2.ensures at c.put_number-end-2.ensures.put) in
     let e = c.write_set-end.ensures in
     let s = c.write_state.ensures in
     let w2 = part_append l _ _ a.at _ _ _ _ p1 p2 (e.put, e.bound) g1 in

@@ -7,4 +7,4 @@ use Rattle.report.proofs.parts.put_name.Goals as goal
 pub returns : goal.returns
 returns c =
     let a = c.args in
-    record { put = owed_put (take a.width a.name) a.at a.line.now _ _ _ (c.name.ensures.answer, c.name.ensures.written) c.end_of.ensures; bound = omega (arith, length-take a.width a.name) }
+    record { put = owed_put (take a.width a.name) a.at a.line.now _ _ _ (c.name.ensures.answer, c.name.ensures.written) c.unwrap_or.ensures; bound = omega (arith, length-take a.width a.name) }

@@ -11,5 +11,5 @@ use Rattle.report.proofs.parts.put_number.Goals as goal
 pub returns : goal.returns
 returns c =
     let a = c.args in
-    let p = owed_put (take a.width a.name ++ decimal a.n) a.at a.line.now _ _ _ (c.number.ensures.answer, c.number.ensures.written) c.end_of.ensures in
+    let p = owed_put (take a.width a.name ++ decimal a.n) a.at a.line.now _ _ _ (c.number.ensures.answer, c.number.ensures.written) c.unwrap_or.ensures in
     record { put = p; bound = field_le a.name a.width (decimal a.n) 20 (decimal_length 19 a.n (omega arith)) }
