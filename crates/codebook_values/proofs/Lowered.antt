@@ -9,7 +9,8 @@ use lib.Dec.{le→leb}
 use lib.IntN.{ℤ, pos, nat_abs, ◌+ℤ◌}
 use lib.ListN.{length, get_or}
 use lib.Signed.{◌≤ℤ◌, ≤ℤ_refl, le_z_yes}
-use Rattle.codebook_values.specs.Values.{smaller, spacing, most_below, lowered}
+use Rattle.std.specs.Int.{int_min}
+use Rattle.codebook_values.specs.Values.{spacing, most_below, lowered}
 use Rattle.codebook_values.specs.Spacing.{Spaced}
 use Rattle.codebook_values.proofs.Sizes.{abs_smaller_le}
 use Rattle.codebook_values.proofs.Order.{sub_le, le_trans, add_le_add, le_sub, add_le_of_sub}
@@ -58,7 +59,7 @@ lowered_spaced l m (x ∷ xs) room s =
 
 -- a value of these is lowered to one at most as large as what is asked of it, for it is not negative
 pub lowered_abs_le : (values : List ℤ) (i : ℕ) (most : ℤ) → i < length values → Spaced spacing values
-    → nat_abs (smaller (get_or values i (pos 0)) most) ≤ nat_abs most
+    → nat_abs (int_min (get_or values i (pos 0)) most) ≤ nat_abs most
 lowered_abs_le values i most h s = abs_smaller_le _ most (le_trans (le_z_yes tt) (spaced_from spacing values i h s))
 
 -- spaced values of which none is above `most` stay as they are
@@ -67,5 +68,5 @@ unfolding Spaced lowered
 lowered_kept least most [] s h = refl
 lowered_kept least most (x ∷ xs) s h =
     let rest = lowered_kept (x +ℤ spacing) most xs s.1 (λ i k. h (suc i) (suc-le-suc k)) in
-    ap (λ (above : List ℤ). smaller x (most_below most above) ∷ above) rest
+    ap (λ (above : List ℤ). int_min x (most_below most above) ∷ above) rest
     ∙ ap (λ (z : ℤ). z ∷ xs) (smaller_kept x _ (below_from x most xs (h 0 (omega arith)) s.1))

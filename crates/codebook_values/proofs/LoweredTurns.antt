@@ -8,7 +8,8 @@ use native.Mathlib.Omega.{arith}
 use lib.ListN.{length, get_or, take, drop, set, take-append-drop, drop_of_length-le, length-take}
 use lib.Seq.{take-suc, take-take, drop-cons, append_snoc, set_at, get_or_at, length-take-le}
 use lib.IntN.{ℤ, pos, ◌-ℤ◌}
-use Rattle.codebook_values.specs.Values.{smaller, spacing, most_below, lowered}
+use Rattle.std.specs.Int.{int_min}
+use Rattle.codebook_values.specs.Values.{spacing, most_below, lowered}
 
 -- values of which those from `at` on are lowered, in front of others
 abbrev pub lowered_from : ℤ → ℕ → List ℤ → List ℤ → List ℤ
@@ -32,12 +33,12 @@ module _ (most : ℤ) (values others : List ℤ) (at j : ℕ) (e : at ≡ suc j)
 
   -- the values from j on: the smaller of that and of what is asked, and then those above it
   lowered_cons : lowered most (drop j values)
-      ≡ smaller (get_or values j (pos 0)) (most_below most (lowered most (drop at values))) ∷ lowered most (drop at values)
+      ≡ int_min (get_or values j (pos 0)) (most_below most (lowered most (drop at values))) ∷ lowered most (drop at values)
   unfolding lowered
   lowered_cons = rw e (ap (lowered most) (drop-cons values j (pos 0) h))
 
   -- what joins those above it, and asks 50 Hz less of the next one down
-  pub lowered_more : (v : ℤ) → v ≡ smaller (get_or values j (pos 0)) (most_below most (lowered most (drop at values)))
+  pub lowered_more : (v : ℤ) → v ≡ int_min (get_or values j (pos 0)) (most_below most (lowered most (drop at values)))
       → (v -ℤ spacing ≡ most_below most (lowered most (drop j values))) × (set (lowered_from most at values others) j v ≡ lowered_from most j values others)
   lowered_more v q =
       let n = length-take-le j values (omega arith) in

@@ -1,20 +1,19 @@
 -- Sizes of signed numbers: of a sum, of an entry within the limit, of four of them added. By cases on the signs.
 -- Assumes nothing.
-use mathlib.Core.Path.{◌≡◌, refl}
-use mathlib.Core.Bool.{Bool, true, false, cond, and-eq-true_iff}
-use Prim.Native.Nat.{ℕ, suc, ◌+◌, ◌-◌, ◌<◌, ◌≤◌, ◌^◌}
+use mathlib.Core.Path.{◌≡◌}
+use mathlib.Core.Bool.{Bool, true, and-eq-true_iff}
+use Prim.Native.Nat.{ℕ, ◌+◌, ◌<◌, ◌≤◌, ◌^◌}
 use native.Mathlib.Nat.{le_refl}
 use native.Mathlib.Omega.{arith}
-use lib.Dec.{ltb, leb→le}
-use lib.IntN.{ℤ, pos, negsuc, nat_abs, sub_ℕ, ◌+ℤ◌}
+use lib.IntN.{ℤ, pos, negsuc, nat_abs, ◌+ℤ◌}
 use lib.Signed.{mag, lt_z, ◌≤ℤ◌}
 use mir.Syntax.{w64}
 use mir.Val.{SFits, to_z, of_z}
 use mir.ValLaws.{to_z-of_z}
-use borrow.Author.Tests.{ltb-true, leb-true}
+use borrow.Author.Tests.{leb-true}
+use Rattle.std.proofs.lemmas.Int.{ints, clamps}
 use Rattle.codebook.specs.Rows.{lsf_fits}
-use Rattle.codebook_values.specs.Values.{larger, smaller}
-use Rattle.codebook_values.proofs.Extremes.{test_cases}
+use Rattle.std.specs.Int.{int_max, int_min}
 
 -- the size that a width's range is told by
 mag_le : (z : ℤ) → mag z ≤ nat_abs z
@@ -33,34 +32,17 @@ number_back z h = to_z-of_z w64 z (record { sfits = h })
 pub test_back : {x y : ℤ} {t : Bool} → SFits w64 x → SFits w64 y → lt_z (to_z w64 (of_z w64 x)) (to_z w64 (of_z w64 y)) ≡ t → lt_z x y ≡ t
 test_back hx hy e = simp (to_z-of_z w64 _ hx, to_z-of_z w64 _ hy) at e
 
--- the size of a difference of two naturals
-sub_abs_le : (a b : ℕ) → nat_abs (sub_ℕ a b) ≤ a + b
-sub_abs_le a b = go (ltb a b) refl
-  where
-    go : (t : Bool) → ltb a b ≡ t → nat_abs (cond t (negsuc (b - suc a)) (pos (a - b))) ≤ a + b
-    go true e = omega (arith, ltb-true a b e)
-    go false e = omega arith
-
 -- a sum is at most as large as both numbers together
 pub abs_add_le : (x y : ℤ) → nat_abs (x +ℤ y) ≤ nat_abs x + nat_abs y
-abs_add_le (pos a) (pos b) = omega arith
-abs_add_le (pos a) (negsuc b) = sub_abs_le a (suc b)
-abs_add_le (negsuc a) (pos b) = omega (arith, sub_abs_le b (suc a))
-abs_add_le (negsuc a) (negsuc b) = omega arith
+abs_add_le x y = omega (arith, ints)
 
 -- the larger of two numbers has the size of one of them
-pub abs_larger_le : (x y : ℤ) (n : ℕ) → nat_abs x ≤ n → nat_abs y ≤ n → nat_abs (larger x y) ≤ n
-abs_larger_le x y n hx hy = test_cases (λ z. nat_abs z ≤ n) x y y x (λ h. hy) (λ h. hx)
-
--- of two numbers that are not negative the larger has the larger size
-abs_le : (x y : ℤ) → pos 0 ≤ℤ x → x ≤ℤ y → nat_abs x ≤ nat_abs y
-abs_le (pos x) (pos y) h k = leb→le x y k.le
-abs_le (pos x) (negsuc y) h k = absurd k.le
-abs_le (negsuc x) y h k = absurd h.le
+pub abs_larger_le : (x y : ℤ) (n : ℕ) → nat_abs x ≤ n → nat_abs y ≤ n → nat_abs (int_max x y) ≤ n
+abs_larger_le x y n hx hy = omega (arith, ints, clamps)
 
 -- the smaller of two numbers of which the first is not negative is at most as large as the second
-pub abs_smaller_le : (x most : ℤ) → pos 0 ≤ℤ x → nat_abs (smaller x most) ≤ nat_abs most
-abs_smaller_le x most h = test_cases (λ z. nat_abs z ≤ nat_abs most) most x most x (λ t. le_refl (nat_abs most)) (abs_le x most h)
+pub abs_smaller_le : (x most : ℤ) → pos 0 ≤ℤ x → nat_abs (int_min x most) ≤ nat_abs most
+abs_smaller_le x most h = omega (arith, ints, clamps)
 
 -- an LSF entry within its limit
 pub lsf_abs_le : (z : ℤ) → lsf_fits z ≡ true → nat_abs z ≤ 4000000000

@@ -8,7 +8,8 @@ use native.Mathlib.Omega.{arith}
 use lib.IntN.{ℤ, pos, ◌+ℤ◌}
 use lib.ListN.{length, get_or}
 use lib.Signed.{◌≤ℤ◌}
-use Rattle.codebook_values.specs.Values.{larger, spacing, raised}
+use Rattle.std.specs.Int.{int_max}
+use Rattle.codebook_values.specs.Values.{spacing, raised}
 use Rattle.codebook_values.specs.Spacing.{Spaced}
 use Rattle.codebook_values.proofs.Order.{add_le, le_trans}
 use Rattle.codebook_values.proofs.Extremes.{larger_le, larger_kept}
@@ -17,7 +18,7 @@ use Rattle.codebook_values.proofs.Extremes.{larger_le, larger_kept}
 pub raised_spaced : (least : ℤ) (xs : List ℤ) → Spaced least (raised least xs)
 unfolding Spaced raised
 raised_spaced least [] = tt
-raised_spaced least (x ∷ xs) = (larger_le x least, raised_spaced (larger x least +ℤ spacing) xs)
+raised_spaced least (x ∷ xs) = (larger_le x least, raised_spaced (int_max x least +ℤ spacing) xs)
 
 -- spaced values stay as they are
 pub spaced_kept : (least : ℤ) (xs : List ℤ) → Spaced least xs → raised least xs ≡ xs

@@ -3,21 +3,23 @@
 use mathlib.Core.Path.{◌≡◌, refl, sym, ap, ◌∙◌}
 use mathlib.Core.Bool.{true}
 use mathlib.Core.List.{List}
-use Prim.Native.Nat.{ℕ, zero, suc, ◌<◌}
+use Prim.Native.Nat.{ℕ, ◌<◌}
 use native.Mathlib.Numerals.{add-one}
 use native.Mathlib.Omega.{arith}
 use lib.ListN.{length, get_or, drop, take}
 use lib.Seq.{take_at}
 use lib.IntN.{ℤ, pos}
 use lib.Signed.{◌≤ℤ◌}
+use Rattle.std.specs.Prelude.{Option, None, Some, Ok}
+use Rattle.refusal.specs.Refusals.{unless}
+use Rattle.refusal.specs.declared.Refusal.{Refusal}
 use Rattle.bits.proofs.Tests.{T_true}
 use Rattle.sets.specs.Sets.{indices_in, in_range}
 use Rattle.sets.specs.declared.ParameterSet.{ParameterSet}
 use Rattle.codebook.specs.Rows.{lsf_size}
-use Rattle.codebook_values.specs.Values.{added_four, spacing, raised, highest, lowered, rows_values, rows_fit, of_rows, lsf_refusal, values_unless, lsf_values, lsf_answer, lsf_writes}
+use Rattle.codebook_values.specs.Values.{added_four, spacing, raised, highest, lowered, rows_values, rows_fit, of_rows, lsf_refusal, lsf_values, lsf_answer, lsf_writes}
 use Rattle.codebook_values.specs.Spacing.{Spaced, InBand, LsfSpacing}
 use Rattle.codebook_values.specs.Checks.{rows_table}
-use Rattle.codebook_values.specs.declared.ValuesAnswer.TheVariants.{Written}
 use Rattle.codebook_values.proofs.Answers.{table_passed}
 use Rattle.codebook_values.proofs.Lengths.{lsf_length}
 use Rattle.codebook_values.proofs.Lowered.{lowered_length, lowered_le, lowered_spaced, lowered_kept}
@@ -48,16 +50,16 @@ lsf_band codebook set whole range =
     spaced_band _ n (lowered_spaced 50000000 3950000000 _ (omega (arith, room)) (raised_spaced spacing _)) (lowered_le highest _)
 
 -- an answer with values has no refusal
-written_passed : (n : ℕ) → values_unless n ≡ Written → n ≡ 0
-written_passed zero e = refl
-written_passed (suc n) e = cc
+written_passed : (n : Option Refusal) → unless {A = Unit {0}} n tt ≡ Ok tt → n ≡ None
+written_passed None e = refl
+written_passed (Some f) e = cc
 
 -- a call that is not refused leaves them in front of its output
-lsf_written : (set : ParameterSet) (codebook out : List ℤ) → lsf_answer set codebook (length out) ≡ Written → InBand (take 10 (lsf_writes set codebook out))
+lsf_written : (set : ParameterSet) (codebook out : List ℤ) → lsf_answer set codebook (length out) ≡ Ok tt → InBand (take 10 (lsf_writes set codebook out))
 unfolding lsf_answer lsf_writes
 lsf_written set codebook out e =
     let passed = written_passed (lsf_refusal set codebook (length out)) e in
-    let p = table_passed set codebook lsf_size out (rows_table (of_rows rows_fit codebook (indices_in set))) passed in
+    let p = table_passed set codebook lsf_size (length out) (rows_table (of_rows rows_fit codebook (indices_in set))) passed in
     let band = lsf_band codebook set p.whole p.range in
     rw (passed, take_at (lsf_values codebook set) (drop 10 out) 10 band.ten) band
 

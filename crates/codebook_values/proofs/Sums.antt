@@ -12,6 +12,8 @@ use borrow.Author.Tests.{le-leb}
 use Rattle.codebook.specs.Rows.{lsf_fits, all_fit}
 use Rattle.codebook_values.specs.Values.{added, added_four, rows_fit}
 use Rattle.codebook_values.specs.Spacing.{sum_fits}
+use Rattle.codebook_values.specs.Sums.{sums}
+use Rattle.codebook_values.specs.declared.rows.Rows.{Rows}
 use Rattle.codebook_values.proofs.FourRows.{and_four}
 use Rattle.codebook_values.proofs.Sizes.{four_abs_le}
 
@@ -28,6 +30,10 @@ pub four_length : (n : ℕ) (a b c d : List ℤ) → length a ≡ n → length b
 four_length n a b c d ha hb hc hd =
     let ab = added_length n a b ha hb in
     added_length n (added (added a b) c) d (added_length n (added a b) c ab hc) hd
+
+-- the rows of a set
+pub sums_length : (rows : Rows) → length (sums rows) ≡ 10
+sums_length rows = let p = rows.ten in four_length 10 _ _ _ _ p.0 p.1 p.2 p.3
 
 -- a place that both rows have
 added_lt : (xs ys : List ℤ) (i : ℕ) → i < length xs → i < length ys → i < length (added xs ys)

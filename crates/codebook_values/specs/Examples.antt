@@ -1,13 +1,13 @@
 -- Document 01, "LSF and magnitude values" and "Refusals by place", and document 02, T-03, in numbers: the rows that a set names, sums that run
 -- off the top, and what is refused. Each fact is about what the calls answer or write.
-use Rattle.std.specs.Prelude.{ℕ, ◌*◌, ◌≡◌, cond, List, [], ◌∷◌, ◌++◌, map, eqb, replicate, ℤ, pos}
+use Rattle.std.specs.Prelude.{ℕ, ◌*◌, ◌≡◌, cond, List, [], ◌∷◌, ◌++◌, map, eqb, replicate, ℤ, pos, Ok, Err}
 use Rattle.bits.specs.Bits.{cut}
 use Rattle.sets.specs.declared.Indices.{Indices}
 use Rattle.sets.specs.declared.ParameterSet.{ParameterSet}
 use Rattle.sets.specs.declared.ParameterSet.TheVariants.{Unvoiced, Voiced}
+use Rattle.refusal.specs.declared.Refusal.TheVariants.{ShortOutput, OutOfRange, InvalidCodebook, EntryOutOfRange}
 use Rattle.codebook.specs.Examples.{counting, zeros_but}
 use Rattle.codebook_values.specs.Values.{lsf_answer, lsf_writes, magnitudes_answer, magnitudes_writes}
-use Rattle.codebook_values.specs.declared.ValuesAnswer.TheVariants.{Written, Refused}
 
 -- L1 = 1, L2 = 2, L3 = 3, L4 = 4, voiced with F = 5 or unvoiced; and a set with L1 one past its range
 abbrev pub indices : ℕ → Indices
@@ -59,18 +59,18 @@ pub record Values : Type 0 where
 
 -- the refusals: 1 for the room, 5 for the set, 6 for the codebook's length, 7 for an entry of a row in use
 pub record Refusals : Type 0 where
-  pub room : map (lsf_answer unvoiced (replicate 3200 (pos 0))) (9 ∷ 10 ∷ []) ≡ Refused 1 ∷ Written ∷ []
-  pub magnitudes_room : map (magnitudes_answer unvoiced (replicate 2560 (pos 0))) (9 ∷ 10 ∷ []) ≡ Refused 1 ∷ Written ∷ []
-  pub range : lsf_answer outside (replicate 3200 (pos 0)) 10 ≡ Refused 5
-  pub length : map (λ n. lsf_answer unvoiced (replicate n (pos 0)) 10) (3199 ∷ 3200 ∷ 3201 ∷ []) ≡ Refused 6 ∷ Written ∷ Refused 6 ∷ []
+  pub room : map (lsf_answer unvoiced (replicate 3200 (pos 0))) (9 ∷ 10 ∷ []) ≡ Err ShortOutput ∷ Ok tt ∷ []
+  pub magnitudes_room : map (magnitudes_answer unvoiced (replicate 2560 (pos 0))) (9 ∷ 10 ∷ []) ≡ Err ShortOutput ∷ Ok tt ∷ []
+  pub range : lsf_answer outside (replicate 3200 (pos 0)) 10 ≡ Err OutOfRange
+  pub length : map (λ n. lsf_answer unvoiced (replicate n (pos 0)) 10) (3199 ∷ 3200 ∷ 3201 ∷ []) ≡ Err InvalidCodebook ∷ Ok tt ∷ Err InvalidCodebook ∷ []
   pub magnitudes_length : map (λ n. magnitudes_answer unvoiced (replicate n (pos 0)) 10) (2559 ∷ 2560 ∷ 2561 ∷ [])
-      ≡ Refused 6 ∷ Written ∷ Refused 6 ∷ []
-  pub entry : map (λ n. lsf_answer unvoiced (zeros_but 3200 2609 (pos n)) 10) (4000000000 ∷ 4000000001 ∷ []) ≡ Written ∷ Refused 7 ∷ []
-  pub magnitude : map (λ n. magnitudes_answer voiced (zeros_but 2560 59 (pos n)) 10) (4000000 ∷ 4000001 ∷ []) ≡ Written ∷ Refused 7 ∷ []
-  pub unvoiced_magnitude : magnitudes_answer unvoiced (zeros_but 2560 59 (pos 4000001)) 10 ≡ Written
+      ≡ Err InvalidCodebook ∷ Ok tt ∷ Err InvalidCodebook ∷ []
+  pub entry : map (λ n. lsf_answer unvoiced (zeros_but 3200 2609 (pos n)) 10) (4000000000 ∷ 4000000001 ∷ []) ≡ Ok tt ∷ Err EntryOutOfRange ∷ []
+  pub magnitude : map (λ n. magnitudes_answer voiced (zeros_but 2560 59 (pos n)) 10) (4000000 ∷ 4000001 ∷ []) ≡ Ok tt ∷ Err EntryOutOfRange ∷ []
+  pub unvoiced_magnitude : magnitudes_answer unvoiced (zeros_but 2560 59 (pos 4000001)) 10 ≡ Ok tt
   pub first : map (λ (set : ParameterSet). lsf_answer set (zeros_but 3199 10 (pos 4000000001)) 10) (outside ∷ unvoiced ∷ [])
-      ≡ Refused 5 ∷ Refused 6 ∷ []
-  pub room_first : lsf_answer outside [] 9 ≡ Refused 1
+      ≡ Err OutOfRange ∷ Err InvalidCodebook ∷ []
+  pub room_first : lsf_answer outside [] 9 ≡ Err ShortOutput
 
 -- all together
 pub record Examples : Type 0 where

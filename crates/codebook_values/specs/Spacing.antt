@@ -1,10 +1,9 @@
 -- What is promised of LSF values beyond their definition: document 02, T-03, in its own numbers, and the minimum separation of MIL-STD-3005,
 -- 5.3.4.
-use Rattle.std.specs.Prelude.{ℕ, ◌+◌, ◌<◌, ◌≡◌, Bool, true, List, [], ◌∷◌, ℤ, pos, neg_ℤ, ◌+ℤ◌, length, get_or, take, ◌≤ℤ◌}
+use Rattle.std.specs.Prelude.{ℕ, ◌+◌, ◌<◌, ◌≡◌, Bool, true, List, [], ◌∷◌, ℤ, pos, neg_ℤ, ◌+ℤ◌, length, get_or, take, ◌≤ℤ◌, Ok}
 use Rattle.sets.specs.declared.ParameterSet.{ParameterSet}
 use Rattle.codebook.specs.Rows.{between, all_fit}
 use Rattle.codebook_values.specs.Values.{added_four, spacing, raised, highest, lowered, rows_values, rows_fit, lsf_answer, lsf_writes}
-use Rattle.codebook_values.specs.declared.ValuesAnswer.TheVariants.{Written}
 
 -- values of which the first is at least `least`, and each next at least the one before plus 50 Hz: what raising gives
 unfoldable pub Spaced : ℤ → List ℤ → Type 0
@@ -25,7 +24,7 @@ sum_fits = between (neg_ℤ (pos 16000000000)) (pos 16000000000)
 -- what holds for any codebook and set
 pub record LsfSpacing : Type 0 where
   -- a call that is not refused leaves such values in front of its output
-  pub written : (set : ParameterSet) (codebook out : List ℤ) → lsf_answer set codebook (length out) ≡ Written
+  pub written : (set : ParameterSet) (codebook out : List ℤ) → lsf_answer set codebook (length out) ≡ Ok tt
       → InBand (take 10 (lsf_writes set codebook out))
   -- sums that are so already stay as they are
   pub kept : (a b c d : List ℤ) → InBand (added_four a b c d) → rows_values a b c d ≡ added_four a b c d

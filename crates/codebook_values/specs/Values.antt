@@ -1,16 +1,16 @@
 -- Document 01, "LSF and magnitude values" and "Refusals by place", with document 02, T-03: the ten values of a set, and what a call for them
 -- answers and leaves. LSF values are those of MIL-STD-3005, 5.3.4, magnitudes those of 5.3.5.
-use Rattle.std.specs.Prelude.{ℕ, zero, suc, Bool, true, not, ◌&&◌, cond, List, [], ◌∷◌, ltb, eqb, length, replicate, ℤ, pos, ◌+ℤ◌, ◌-ℤ◌}
-use Rattle.std.specs.Int.Signed.{lt_z}
+use Rattle.std.specs.Prelude.{ℕ, Bool, true, not, ◌&&◌, List, [], ◌∷◌, ltb, eqb, length, replicate, ℤ, pos, ◌+ℤ◌, ◌-ℤ◌, Option, Result}
+use Rattle.std.specs.Int.{int_max, int_min}
 use Rattle.bits.specs.Lists.{written_unless}
-use Rattle.refusal.specs.Refusals.{Table, first_refusal}
+use Rattle.refusal.specs.Refusals.{Table, first_refusal, unless}
+use Rattle.refusal.specs.declared.Refusal.{Refusal}
+use Rattle.refusal.specs.declared.Refusal.TheVariants.{ShortOutput, OutOfRange, InvalidCodebook, EntryOutOfRange}
 use Rattle.sets.specs.Sets.{indices_in, in_range}
 use Rattle.sets.specs.declared.Indices.{Indices}
 use Rattle.sets.specs.declared.ParameterSet.{ParameterSet}
 use Rattle.sets.specs.declared.ParameterSet.TheVariants.{Unvoiced, Voiced}
 use Rattle.codebook.specs.Rows.{lsf_size, magnitude_size, lsf_row, magnitude_row, lsf_fits, magnitude_fits, all_fit}
-use Rattle.codebook_values.specs.declared.ValuesAnswer.{ValuesAnswer}
-use Rattle.codebook_values.specs.declared.ValuesAnswer.TheVariants.{Written, Refused}
 
 -- two rows added, component by component
 unfoldable pub added : List ℤ → List ℤ → List ℤ
@@ -22,10 +22,6 @@ added (x ∷ xs) (y ∷ ys) = (x +ℤ y) ∷ added xs ys
 abbrev pub added_four : List ℤ → List ℤ → List ℤ → List ℤ → List ℤ
 added_four a b c d = added (added (added a b) c) d
 
--- the larger of two numbers
-abbrev pub larger : ℤ → ℤ → ℤ
-larger x y = cond (lt_z x y) y x
-
 -- 50 Hz: the least that two neighbours may lie apart (5.3.4), and the least that component 1 may be
 abbrev pub spacing : ℤ
 spacing = pos 50000000
@@ -34,11 +30,7 @@ spacing = pos 50000000
 -- for 5.3.4, which leaves open how values are moved apart)
 unfoldable pub raised : ℤ → List ℤ → List ℤ
 raised least [] = []
-raised least (x ∷ xs) = let y = larger x least in y ∷ raised (y +ℤ spacing) xs
-
--- the smaller of two numbers
-abbrev pub smaller : ℤ → ℤ → ℤ
-smaller x y = cond (lt_z y x) y x
+raised least (x ∷ xs) = let y = int_max x least in y ∷ raised (y +ℤ spacing) xs
 
 -- 3,950 Hz: the most that the tenth component may be (document 02, T-03)
 abbrev pub highest : ℤ
@@ -52,7 +44,7 @@ most_below most (next ∷ above) = next -ℤ spacing
 -- each component lowered to at most what is asked of it, from the last one down (document 02, T-03)
 unfoldable pub lowered : ℤ → List ℤ → List ℤ
 lowered most [] = []
-lowered most (x ∷ xs) = let above = lowered most xs in smaller x (most_below most above) ∷ above
+lowered most (x ∷ xs) = let above = lowered most xs in int_min x (most_below most above) ∷ above
 
 -- the LSF values of four rows: added, then raised, then lowered
 abbrev pub rows_values : List ℤ → List ℤ → List ℤ → List ℤ → List ℤ
@@ -84,45 +76,40 @@ magnitudes_fit codebook (Voiced x v) = all_fit magnitude_fits (magnitude_row cod
 -- another length; 7, an entry of one of the set's four rows beyond its limit
 abbrev pub lsf_table : ParameterSet → List ℤ → ℕ → Table
 lsf_table set codebook room =
-    (ltb room 10, 1)
-    ∷ (not (in_range set), 5)
-    ∷ (not (eqb (length codebook) lsf_size), 6)
-    ∷ (not (of_rows rows_fit codebook (indices_in set)), 7)
+    (ltb room 10, ShortOutput)
+    ∷ (not (in_range set), OutOfRange)
+    ∷ (not (eqb (length codebook) lsf_size), InvalidCodebook)
+    ∷ (not (of_rows rows_fit codebook (indices_in set)), EntryOutOfRange)
     ∷ []
 
 -- what refuses magnitudes, likewise
 abbrev pub magnitudes_table : ParameterSet → List ℤ → ℕ → Table
 magnitudes_table set codebook room =
-    (ltb room 10, 1)
-    ∷ (not (in_range set), 5)
-    ∷ (not (eqb (length codebook) magnitude_size), 6)
-    ∷ (not (magnitudes_fit codebook set), 7)
+    (ltb room 10, ShortOutput)
+    ∷ (not (in_range set), OutOfRange)
+    ∷ (not (eqb (length codebook) magnitude_size), InvalidCodebook)
+    ∷ (not (magnitudes_fit codebook set), EntryOutOfRange)
     ∷ []
 
--- the refusal of LSF values, 0 is none
-abbrev pub lsf_refusal : ParameterSet → List ℤ → ℕ → ℕ
+-- the refusal of LSF values
+abbrev pub lsf_refusal : ParameterSet → List ℤ → ℕ → Option Refusal
 lsf_refusal set codebook room = first_refusal (lsf_table set codebook room)
 
 -- and of magnitudes
-abbrev pub magnitudes_refusal : ParameterSet → List ℤ → ℕ → ℕ
+abbrev pub magnitudes_refusal : ParameterSet → List ℤ → ℕ → Option Refusal
 magnitudes_refusal set codebook room = first_refusal (magnitudes_table set codebook room)
 
--- the answer: values written, or the refusal's number
-abbrev pub values_unless : ℕ → ValuesAnswer
-values_unless zero = Written
-values_unless (suc n) = Refused (suc n)
-
 -- what a call for LSF values answers, for an output of `room` numbers
-unfoldable pub lsf_answer : ParameterSet → List ℤ → ℕ → ValuesAnswer
-lsf_answer set codebook room = values_unless (lsf_refusal set codebook room)
+unfoldable pub lsf_answer : ParameterSet → List ℤ → ℕ → Result Unit Refusal
+lsf_answer set codebook room = unless (lsf_refusal set codebook room) tt
 
 -- and what its output holds afterwards: the values in front and all past the tenth number kept; after a refusal all kept
 unfoldable pub lsf_writes : ParameterSet → List ℤ → List ℤ → List ℤ
 lsf_writes set codebook out = written_unless (lsf_refusal set codebook (length out)) 10 (lsf_values codebook set) out
 
 -- what a call for magnitudes answers
-unfoldable pub magnitudes_answer : ParameterSet → List ℤ → ℕ → ValuesAnswer
-magnitudes_answer set codebook room = values_unless (magnitudes_refusal set codebook room)
+unfoldable pub magnitudes_answer : ParameterSet → List ℤ → ℕ → Result Unit Refusal
+magnitudes_answer set codebook room = unless (magnitudes_refusal set codebook room) tt
 
 -- and what its output holds afterwards
 unfoldable pub magnitudes_writes : ParameterSet → List ℤ → List ℤ → List ℤ

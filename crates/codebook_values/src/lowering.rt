@@ -3,7 +3,6 @@ ghost use Rattle.std.specs.Prelude.{◌≡◌, ◌++◌, ◌≤◌, length, take
 ghost use Rattle.codebook_values.specs.Values.{spacing, highest, lowered};
 ghost use Rattle.codebook_values.specs.Spacing.{Spaced};
 
-use crate::arithmetic::{smaller, sum};
 use crate::raising::SPACING;
 
 // 3,950 Hz: the most that the tenth value may be.
@@ -19,8 +18,8 @@ pub(crate) fn lower(out: &mut [i64])
     let mut at = 10;
     while 0 < at {
         at -= 1;
-        let value = smaller(out[at], most);
+        let value = out[at].min(most);
         out[at] = value;
-        most = sum(value, -SPACING);
+        most = value - SPACING;
     }
 }

@@ -9,67 +9,53 @@ use mir.Syntax.{w64}
 use mir.Val.{SFits, to_z, of_z}
 use mir.ValLaws.{to_z-of_z}
 use borrow.Author.Rules.{rules}
-use Rattle.codebook_values.specs.Values.{smaller, spacing, highest}
-use Rattle.codebook_values.proofs.Sizes.{number_back, abs_add_le}
+use Rattle.std.specs.Int.{int_min}
+use Rattle.codebook_values.specs.Values.{spacing, highest}
+use Rattle.codebook_values.proofs.Sizes.{abs_fits, number_back, abs_add_le}
 use Rattle.codebook_values.proofs.Lowered.{lowered_abs_le}
 use Rattle.codebook_values.proofs.LoweredTurns.{lowered_start, lowered_at, lowered_more}
 use Rattle.codebook_values.proofs.lowering.lower.Goals as goal
-use Rattle.codebook_values.proofs.lowering.lower.Goals.{After-smaller-value, At-loop-at, Start}
+use Rattle.codebook_values.proofs.lowering.lower.Goals.{After-min-value}
 
 -- the ten values, and the number of the one whose turn it is
-abbrev values : Start → List ℤ
-values s = take 10 s.args.out.now
+abbrev values : After-min-value → List ℤ
+values c = take 10 c.args.out.now
 
-abbrev turn : At-loop-at → ℕ
-turn l = l.loop-at.at - 1
+abbrev turn : After-min-value → ℕ
+turn c = c.loop-at.at - 1
 
-turn_lt : (l : At-loop-at) → 0 < l.loop-at.at → turn l < length (values (goal.at.At-loop-at l).Start)
-turn_lt l h = simp length-take (omega arith)
+turn_lt : (c : After-min-value) → turn c < length (values c)
+turn_lt c = simp length-take (omega arith)
 
 -- what stands there before the turn, and what is made of it
-entry_is : (l : At-loop-at) → 0 < l.loop-at.at → get_or l.loop-at.out (turn l) (pos 0) ≡ get_or (values (goal.at.At-loop-at l).Start) (turn l) (pos 0)
-entry_is l h = rw l.loop-at.invariant.4 (lowered_at highest (values (goal.at.At-loop-at l).Start) _ l.loop-at.at (turn l) (omega arith) (turn_lt l h))
+entry_is : (c : After-min-value) → get_or c.loop-at.out (turn c) (pos 0) ≡ get_or (values c) (turn c) (pos 0)
+entry_is c = rw c.loop-at.invariant.4 (lowered_at highest (values c) _ c.loop-at.at (turn c) (omega arith) (turn_lt c))
 
-value_is : (c : After-smaller-value) →
-    let at = goal.at.After-smaller-value c in
-    c.smaller-value.result ≡ smaller (get_or (values at.Start) (turn at.At-loop-at) (pos 0)) (to_z w64 c.loop-at.most-bits)
+value_is : (c : After-min-value) → c.min-value.result ≡ int_min (get_or (values c) (turn c) (pos 0)) (to_z w64 c.loop-at.most-bits)
 value_is c =
-    let l = (goal.at.After-smaller-value c).At-loop-at in
-    let f : SFits w64 (get_or c.loop-at.out (turn l) (pos 0)) = search rules in
-    rw (← entry_is l (omega arith)) (simp (to_z-of_z w64 _ f) at c.smaller-value.ensures)
+    let f : SFits w64 (get_or c.loop-at.out (turn c) (pos 0)) = search rules in
+    rw (← entry_is c) (simp (to_z-of_z w64 _ f) at c.min-value.ensures.value)
 
 -- which is at most as large as what was asked of it
-value_le : (c : After-smaller-value) → nat_abs c.smaller-value.result ≤ nat_abs (to_z w64 c.loop-at.most-bits)
-value_le c =
-    let at = goal.at.After-smaller-value c in
-    rw (value_is c) (lowered_abs_le (values at.Start) (turn at.At-loop-at) (to_z w64 c.loop-at.most-bits) (turn_lt at.At-loop-at (omega arith)) c.requires.spaced)
+value_le : (c : After-min-value) → nat_abs c.min-value.result ≤ nat_abs (to_z w64 c.loop-at.most-bits)
+value_le c = rw (value_is c) (lowered_abs_le (values c) (turn c) (to_z w64 c.loop-at.most-bits) (turn_lt c) c.requires.spaced)
+
+-- 50 Hz less is far from the ends of the type
+less_fits : (c : After-min-value) → SFits w64 (c.min-value.result -ℤ spacing)
+less_fits c = abs_fits _ (omega (arith, value_le c, abs_add_le c.min-value.result (neg_ℤ spacing)))
 
 pub loop-at-init : goal.loop-at-init
 loop-at-init c = let s = lowered_start highest 10 c.args.out.now in (omega arith, search rules, omega arith, s.0, s.1)
 
-pub sum-most-requires : goal.sum-most-requires
-sum-most-requires c =
-    let v = c.smaller-value in
-    let h : nat_abs (to_z w64 (of_z w64 v.result)) ≤ 20000000000 =
-    rw (number_back v.result v.type_inv) (omega (arith, value_le (goal.at.sum-most-requires c).After-smaller-value)) in
-    (h, omega arith)
+pub overflow_sub-most : goal.overflow_sub-most
+overflow_sub-most c = rw (number_back c.min-value.result c.min-value.type_inv) (less_fits c)
 
 pub loop-at-preserved : goal.loop-at-preserved
 loop-at-preserved c =
-    let at = goal.at.loop-at-preserved c in
-    let v = at.After-smaller-value in
-    let l = at.At-loop-at in
-    let s = at.Start in
     let L = c.loop-at in
-    let y = to_z w64 (of_z w64 c.smaller-value.result) in
-    let r : y ≡ c.smaller-value.result = number_back c.smaller-value.result c.smaller-value.type_inv in
-    let next : to_z w64 (of_z w64 c.sum-most.result) ≡ y -ℤ spacing = number_back c.sum-most.result c.sum-most.type_inv ∙ c.sum-most.ensures in
-    let q = r ∙ value_is v ∙ ap (smaller (get_or (values s) (turn l) (pos 0))) L.invariant.3 in
-    let n = lowered_more highest (values s) (drop 10 s.args.out.now) L.at (turn l) (omega arith) (turn_lt l (omega arith)) y q in
-    (omega arith, search rules, rw (next, r) (omega (arith, value_le v, abs_add_le c.smaller-value.result (neg_ℤ spacing))), next ∙ n.0, rw L.invariant.4 n.1)
-
-pub returns : goal.returns
-returns c =
-    let L = c.loop-at in
-    let e : L.at ≡ 0 = omega arith in
-    rw e at L.invariant.4
+    let v = c.min-value.result in
+    let r : to_z w64 (of_z w64 v) ≡ v = number_back v c.min-value.type_inv in
+    let next : to_z w64 (of_z w64 (v -ℤ spacing)) ≡ v -ℤ spacing = to_z-of_z w64 _ (less_fits c) in
+    let q = value_is c ∙ ap (int_min (get_or (values c) (turn c) (pos 0))) L.invariant.3 in
+    let n = lowered_more highest (values c) (drop 10 c.args.out.now) L.at (turn c) (omega arith) (turn_lt c) v q in
+    rw (r, next) (omega arith, search rules, omega (arith, value_le c, abs_add_le v (neg_ℤ spacing)), n.0, rw L.invariant.4 n.1)
