@@ -1,14 +1,14 @@
 -- Document 01, "Program hear": what is printed for the bytes of a call.
-use Rattle.std.specs.Prelude.{ℕ, zero, suc, ◌+◌, ◌*◌, ◌%◌, ◌≡◌, List, ◌++◌, length, take, drop}
+use Rattle.std.specs.Prelude.{ℕ, zero, suc, ◌+◌, ◌*◌, ◌%◌, ◌≡◌, List, ◌++◌, length, take, drop, Result, Ok, Err}
 use Rattle.std.specs.declared.option.Option.{Option}
 use Rattle.std.specs.Io.KnownBytes.{Appends}
 use Rattle.bits.specs.Lists.{ReadFrom}
 use Rattle.console.specs.Fronts.{AppendsFront}
+use Rattle.refusal.specs.declared.Refusal.{Refusal}
 use Rattle.order.specs.Order.{default_order}
 use Rattle.receiver.specs.declared.Kind.{Kind}
 use Rattle.receiver.specs.declared.Kind.TheVariants.{Unvoiced, Voiced, Repeat}
-use Rattle.receiver.specs.declared.ReceiveAnswer.{ReceiveAnswer}
-use Rattle.receiver.specs.declared.ReceiveAnswer.TheVariants.{Result, Refused}
+use Rattle.receiver.specs.declared.FrameResult.{FrameResult}
 use Rattle.receiver.specs.Frames.{frames_in, answer_at}
 use Rattle.report.specs.Lines.{first_line, frame_line, last_line}
 
@@ -22,9 +22,9 @@ repeat_kind Unvoiced = 0
 repeat_kind Voiced = 0
 repeat_kind Repeat = 1
 
-abbrev pub repeat_of : ReceiveAnswer → ℕ
-repeat_of (Result r) = repeat_kind r.kind
-repeat_of (Refused n) = 0
+abbrev pub repeat_of : Result FrameResult Refusal → ℕ
+repeat_of (Ok r) = repeat_kind r.kind
+repeat_of (Err f) = 0
 
 -- the first line and those of the first k frames
 unfoldable pub text_before : List ℕ → ℕ → List ℕ

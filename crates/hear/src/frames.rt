@@ -8,9 +8,9 @@ ghost use Rattle.receiver.specs.Frames.{record_after, answer_at};
 ghost use Rattle.hear.specs.Call.{repeat_of};
 
 use crate::output::{Sent, nothing};
-use receiver::{Kind, ReceiveAnswer};
+use receiver::{FrameResult, Kind, Received};
 use records::Record;
-use text::end_of;
+use refusal::Refusal;
 
 // How far a call is received: the receiver's record, how many frames were repeats, how many bytes of the text are
 // sent, and where the others end in the buffer.
@@ -38,20 +38,18 @@ pub(crate) fn begin(end: usize) -> Progress
 }
 
 // 1 for a repeat, 0 for any other answer.
-fn repeat_of(answer: ReceiveAnswer) -> u64
+fn repeat_of(answer: Result<FrameResult, Refusal>) -> u64
     ensures equal { result ≡ repeat_of answer }
     ensures bound { result ≤ 1 }
 {
     match answer {
-        ReceiveAnswer::Refused(_) => 0,
-        ReceiveAnswer::Result(result) => {
-            let kind = result.kind;
-            match kind {
-                Kind::Repeat => 1,
-                Kind::Unvoiced => 0,
-                Kind::Voiced => 0,
-            }
-        }
+        Ok(
+            FrameResult {
+                kind: Kind::Repeat,
+                ..
+            },
+        ) => 1,
+        _ => 0,
     }
 }
 
@@ -66,20 +64,12 @@ pub(crate) fn take_frame(before: Progress, bytes: &[u8], k: usize, out: &mut [u8
     ensures line { Appended out.old before.end (frame_line k (answer_at default_order bytes.now k)) out.new result.end }
     ensures bound { result.end ≤ before.end + 144 }
 {
-    let rec = before.rec;
-    let sent = before.sent;
     let order = order::default_order();
-    let received = receiver::receive(rec, &bytes[7 * k..7 * k + 7], &order);
-    let answer = received.answer;
-    let next = received.next;
-    let repeats = before.repeats + repeat_of(answer);
+    let Received { answer, next } = receiver::receive(before.rec, &bytes[7 * k..7 * k + 7], &order);
     Progress {
         rec: next,
-        repeats,
-        sent,
-        end: end_of(
-            report::frame_line(k as u64, answer, out, before.end),
-            before.end,
-        ),
+        repeats: before.repeats + repeat_of(answer),
+        end: report::frame_line(k as u64, answer, out, before.end).unwrap_or(before.end),
+        ..before
     }
 }

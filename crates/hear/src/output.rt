@@ -9,7 +9,7 @@ use std::io::Write;
 
 // How many bytes of the text are sent. The field is private: no other file can make or raise a count, so what is not
 // written is not counted.
-#[derive(Clone, Copy)]
+#[derive(Clone, Copy, Debug, PartialEq, Eq)]
 pub(crate) struct Sent {
     count: usize,
 }
@@ -36,6 +36,7 @@ pub(crate) fn send<W: Write>(
     ensures failed { OnErr result (AppendsFront (W.contents to.old) (W.contents to.new) (take end out.now)) }
 {
     console::write_all(to, &out[..end])?;
-    let count = sent.count + end;
-    Ok(Sent { count })
+    Ok(Sent {
+        count: sent.count + end,
+    })
 }

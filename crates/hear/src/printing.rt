@@ -10,7 +10,6 @@ use crate::frames::{Progress, begin, take_frame};
 use crate::output::{Sent, send};
 use std::io;
 use std::io::Write;
-use text::end_of;
 
 // Room for a line more: a buffer that is nearly full is sent.
 fn make_room<W: Write>(
@@ -32,13 +31,10 @@ fn make_room<W: Write>(
     if before.end <= 65392 {
         return Ok(before);
     }
-    let rec = before.rec;
-    let sent = before.sent;
     Ok(Progress {
-        rec,
-        repeats: before.repeats,
-        sent: send(to, bytes, out, sent, before.end)?,
+        sent: send(to, bytes, out, before.sent, before.end)?,
         end: 0,
+        ..before
     })
 }
 
@@ -71,17 +67,19 @@ fn print_text<W: Write>(to: &mut W, bytes: &[u8], out: &mut [u8]) -> io::Result<
     ensures written { OnOk result (Appends (W.contents to.old) (W.contents to.new) (text bytes.now)) }
     ensures failed { OnErr result (AppendsFront (W.contents to.old) (W.contents to.new) (text bytes.now)) }
 {
-    let first = end_of(report::first_line(out, 0), 0);
+    let first = report::first_line(out, 0).unwrap_or(0);
     let frames = bytes.len() / 7;
     let left = bytes.len() % 7;
     let printed = print_frames(to, bytes, out, first)?;
     let ready = make_room(to, printed, bytes, frames, out)?;
-    let end = end_of(
-        report::last_line(frames as u64, ready.repeats, left as u64, out, ready.end),
+    let end = report::last_line(
+        frames as u64,
+        ready.repeats,
+        left as u64,
+        out,
         ready.end,
-    );
-    let sent = ready.sent;
-    send(to, bytes, out, sent, end)
+    ).unwrap_or(ready.end);
+    send(to, bytes, out, ready.sent, end)
 }
 
 // All that is printed for the standard input of which the first `size` bytes of a buffer for 9,362 frames were read.

@@ -20,11 +20,11 @@ returns c =
     let a = c.args in
     let bytes = a.bytes.now in
     let b = a.before in
-    let x = c.receive-received.result in
-    let h = rw c.default_order-order.ensures at c.receive-received.ensures in
+    let x = c.receive-answer.result in
+    let h = rw c.default_order-order.ensures at c.receive-answer.ensures in
     let ans = answer_is default_order bytes a.k b.rec x h c.requires.rec_value in
     let n : c.repeat_of.result ≡ repeat_of (answer_at default_order bytes a.k) = c.repeat_of.ensures.equal ∙ ap repeat_of ans in
-    let q = line_added (frame_line a.k x.answer) a.out.now _ b.end 144 _ _ (c.frame_line.ensures.answer, (c.frame_line.ensures.written, c.frame_line.ensures.bound)) c.end_of.ensures c.requires.k_in_bounds.1 in
+    let q = line_added (frame_line a.k x.answer) a.out.now _ b.end 144 _ _ (c.frame_line.ensures.answer, (c.frame_line.ensures.written, c.frame_line.ensures.bound)) c.unwrap_or.ensures c.requires.k_in_bounds.1 in
     let w = rw ans at q in
     let next = next_is default_order bytes a.k b.rec x h c.requires.rec_value in
     record { «record» = next; repeats = ap (λ n. b.repeats + n) n; count = omega (arith, c.repeat_of.ensures.bound, c.requires.k_in_bounds.2); sent = refl; line = w.0; bound = w.1 }
