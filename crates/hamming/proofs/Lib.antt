@@ -6,6 +6,5 @@ pub mod Sums
 pub mod Words
 pub mod Erasures
 pub mod Entries
-pub mod Parities
 pub mod Outcomes
 pub mod Bounds

@@ -15,6 +15,44 @@ pub enum WordLength {
     Eight,
 }
 
+impl WordLength {
+    ghost use Rattle.std.specs.Prelude.{◌≡◌, ◌%◌, ◌<◌, ◌^◌};
+    ghost use Rattle.hamming.specs.Word.{length_of, check_bits};
+
+    // The number of bits.
+    pub(crate) fn bits(self) -> u8
+        ensures { result ≡ length_of self }
+    {
+        match self {
+            WordLength::Six => 6,
+            WordLength::Seven => 7,
+            WordLength::Eight => 8,
+        }
+    }
+
+    // The weight of the lowest data bit: the parity bits stand below it.
+    pub(crate) fn data_weight(self) -> u8
+        ensures equal { result ≡ 2 ^ check_bits (length_of self) }
+        ensures positive { 0 < result }
+    {
+        match self {
+            WordLength::Six | WordLength::Seven => 8,
+            WordLength::Eight => 16,
+        }
+    }
+
+    // The word in the low bits of a number.
+    pub(crate) fn word_in(self, number: u8) -> u8
+        ensures { result ≡ number % 2 ^ length_of self }
+    {
+        match self {
+            WordLength::Six => number % 64,
+            WordLength::Seven => number % 128,
+            WordLength::Eight => number,
+        }
+    }
+}
+
 // What a received word is read as, in whatever way its data were chosen. A word that erases its frame is read as nothing.
 #[derive(Clone, Copy, Debug, PartialEq, Eq)]
 pub struct Word {

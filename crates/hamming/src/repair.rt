@@ -1,68 +1,57 @@
 // The outcome of a received word by its syndrome, which tells the bit to flip back, if any.
-ghost use Rattle.std.specs.Prelude.{◌≡◌, ◌≤◌, ◌<◌, ◌^◌};
+ghost use Rattle.std.specs.Prelude.{◌≡◌, ◌<◌, ◌^◌};
 ghost use Rattle.bits.specs.Bits.{value, bits};
-ghost use Rattle.hamming.specs.Word.{length_of, check_bits, syndrome, flip_at, decode};
-ghost use Rattle.hamming.specs.Table.{fix_row};
+ghost use Rattle.hamming.specs.Word.{length_of, check_bits, syndrome, flip_at, fix_of, decode};
+ghost use Rattle.hamming.specs.Table.{entry_of};
 
 use crate::parity::parity_of;
 use crate::{Word, WordLength};
 
-// The weight of the lowest data bit: the parity bits stand below it.
-fn data_weight(n: usize) -> u8
-    ensures equal { result ≡ 2 ^ check_bits n }
-    ensures positive { 0 < result }
-{
-    if n == 8 { 16 } else { 8 }
-}
-
-// The syndrome of a word of n bits: its parity bits plus the parity of its data.
-fn syndrome_of(length: WordLength, n: usize, word: u8) -> u8
-    requires { n ≡ length_of length }
-    ensures number { bits (check_bits n) result ≡ syndrome n (bits n word) }
+// The syndrome of a word: its parity bits plus the parity of its data.
+fn syndrome_of(length: WordLength, word: u8) -> u8
+    ensures number { bits (check_bits (length_of length)) result ≡ syndrome (length_of length) (bits (length_of length) word) }
     ensures bound { result < 16 }
 {
-    let weight = data_weight(n);
+    let weight = length.data_weight();
     (word % weight) ^ parity_of(length, word / weight)
 }
 
-// A word of n bits with bit k, counted from the first, flipped.
-fn flipped(n: usize, word: u8, k: usize) -> u8
-    requires { (6 ≤ n) × (n ≤ 8) × (k < n) × (word < 2 ^ n) }
-    ensures { result ≡ value (flip_at k (bits n word)) }
+// What the table has for a syndrome of a word of this length.
+fn entry_at(length: WordLength, syndrome: u8) -> u8
+    requires { syndrome < 16 }
+    ensures { result ≡ entry_of (fix_of (length_of length) (bits (check_bits (length_of length)) syndrome)) }
 {
-    word ^ (1 << (n - 1 - k))
+    match length {
+        WordLength::Six => FIXES[0][syndrome as usize],
+        WordLength::Seven => FIXES[1][syndrome as usize],
+        WordLength::Eight => FIXES[2][syndrome as usize],
+    }
 }
 
-// The outcome of a word of n bits: the table's row for such words is asked at its syndrome.
-fn decode_word(length: WordLength, n: usize, fixes: [u8; 16], word: u8) -> Option<Word>
-    requires { (n ≡ length_of length) × (word < 2 ^ n) × (fixes ≡ fix_row n) }
-    ensures { result ≡ decode n (bits n word) }
+// A word with bit k, counted from the first, flipped.
+fn flipped(length: WordLength, word: u8, k: u8) -> u8
+    requires { (k < length_of length) × (word < 2 ^ length_of length) }
+    ensures { result ≡ value (flip_at k (bits (length_of length) word)) }
 {
-    let fix = fixes[syndrome_of(length, n, word) as usize];
-    let weight = data_weight(n);
-    if fix == ERASE {
-        return None;
-    }
-    if fix == STAND {
-        return Some(Word {
-            data: word / weight,
-            repaired: 0,
-        });
-    }
-    Some(Word {
-        data: flipped(n, word, fix as usize) / weight,
-        repaired: 1,
-    })
+    word ^ (1 << (length.bits() - 1 - k))
 }
 
-// The outcome of the word in the low bits of a number.
+// The outcome of the word in the low bits of a number: the table is asked at its syndrome.
 pub fn decode(length: WordLength, word: u8) -> Option<Word>
     ensures { result ≡ decode (length_of length) (bits (length_of length) word) }
 {
-    match length {
-        WordLength::Six => decode_word(length, 6, FIXES[0], word % 64),
-        WordLength::Seven => decode_word(length, 7, FIXES[1], word % 128),
-        WordLength::Eight => decode_word(length, 8, FIXES[2], word),
+    let word = length.word_in(word);
+    let weight = length.data_weight();
+    match entry_at(length, syndrome_of(length, word)) {
+        ERASE => None,
+        STAND => Some(Word {
+            data: word / weight,
+            repaired: 0,
+        }),
+        k => Some(Word {
+            data: flipped(length, word, k) / weight,
+            repaired: 1,
+        }),
     }
 }
 
@@ -73,6 +62,7 @@ const ERASE: u8 = 9;
 
 // The table of tables: a row for the words of six, seven and eight bits, in it for each syndrome the
 // bit to flip, counted from the first, or a mark. Three parity bits fill half a row, so it has them twice.
+// Both the marks among the bits and a row for each length are the form that the document of the code gives the table.
 const FIXES: [[u8; 16]; 3] = [
     [8, 5, 4, 2, 3, 1, 0, 9, 8, 5, 4, 2, 3, 1, 0, 9],
     [8, 6, 5, 2, 4, 1, 0, 3, 8, 6, 5, 2, 4, 1, 0, 3],

@@ -1,43 +1,29 @@
--- `hamming::repair::decode` meets its contract: what stands above the word's bits is taken off. Assumes nothing.
-use mathlib.Core.Path.{◌≡◌, refl, ap, ◌∙◌, sym, subst⁻¹}
-use Prim.Native.Nat.{ℕ}
+-- `hamming::repair::decode` meets its contract: the entry at the syndrome decides the outcome. Assumes nothing.
 use native.Mathlib.Omega.{arith}
-use Rattle.bits.specs.Bits.{bits}
-use Rattle.bits.proofs.Digits.{bits_mod}
-use Rattle.hamming.specs.Word.{length_of, fix_of, decode}
-use Rattle.hamming.specs.Table.{fix_row}
-use Rattle.hamming.specs.declared.WordLength.{WordLength}
-use Rattle.hamming.specs.declared.Word.{Word}
-use Rattle.std.specs.Prelude.{Option}
+use Rattle.hamming.specs.Word.{length_of}
+use Rattle.hamming.proofs.Lengths.{length_least, length_most}
+use Rattle.hamming.proofs.Outcomes.{Asked, erase_is, stand_is, flipped_fits, flip_is}
 use Rattle.hamming.proofs.repair.decode.Goals as goal
+use Rattle.hamming.proofs.repair.decode.Goals.{After-entry_at}
 
--- what is claimed of a result
-abbrev Claim : Option Word → ℕ → WordLength → Type 0
-Claim r w l = r ≡ decode (length_of l) (bits (length_of l) w)
+asked : (c : After-entry_at) → Asked (length_of c.args.length) c.args.word c.word_in-word.result c.data_weight-weight.result c.syndrome_of.result c.entry_at.result
+asked c = record {
+  least = length_least c.args.length;
+  most = length_most c.args.length;
+  word_is = c.word_in-word.ensures;
+  weight_is = c.data_weight-weight.ensures.equal;
+  syndrome_is = c.syndrome_of.ensures.number;
+  entry_is = c.entry_at.ensures;
+}
 
-pub decode_word-requires : goal.decode_word-requires
-unfolding fix_row fix_of
-decode_word-requires c = (ap length_of (sym c.in-Six.is), omega arith, refl)
+pub returns-in-9 : goal.returns-in-9
+returns-in-9 c = erase_is (asked (goal.at.returns-in-9 c).After-entry_at) c.in-9.is
 
-pub decode_word-requires-in-Seven : goal.decode_word-requires-in-Seven
-unfolding fix_row fix_of
-decode_word-requires-in-Seven c = (ap length_of (sym c.in-Seven.is), omega arith, refl)
+pub returns-in-8 : goal.returns-in-8
+returns-in-8 c = stand_is (asked (goal.at.returns-in-8 c).After-entry_at) c.in-8.is
 
-pub decode_word-requires-in-Eight : goal.decode_word-requires-in-Eight
-unfolding fix_row fix_of
-decode_word-requires-in-Eight c = (ap length_of (sym c.in-Eight.is), omega arith, refl)
+pub flipped-requires : goal.flipped-requires
+flipped-requires c = flipped_fits (asked (goal.at.flipped-requires c).After-entry_at) (λ e. omega arith) (λ e. omega arith)
 
-pub returns-in-Six : goal.returns-in-Six
-returns-in-Six c =
-    let word = c.args.word in
-    subst⁻¹ (Claim c.decode_word.result word) c.in-Six.is (c.decode_word.ensures ∙ ap (decode 6) (bits_mod 6 word))
-
-pub returns-in-Seven : goal.returns-in-Seven
-returns-in-Seven c =
-    let word = c.args.word in
-    subst⁻¹ (Claim c.decode_word-in-Seven.result word) c.in-Seven.is (c.decode_word-in-Seven.ensures ∙ ap (decode 7) (bits_mod 7 word))
-
-pub returns-in-Eight : goal.returns-in-Eight
-returns-in-Eight c =
-    let word = c.args.word in
-    subst⁻¹ (Claim c.decode_word-in-Eight.result word) c.in-Eight.is c.decode_word-in-Eight.ensures
+pub returns-in_default : goal.returns-in_default
+returns-in_default c = flip_is (asked (goal.at.returns-in_default c).After-entry_at) (λ e. omega arith) (λ e. omega arith) _ c.flipped.ensures

@@ -5,6 +5,8 @@ use native.Mathlib.Nat.{mod-eq_of_lt, one-mul}
 use native.Mathlib.Omega.{arith}
 use lib.Bits.{bit_xor}
 use lib.Pow.{pow-lt}
+use Rattle.hamming.specs.Word.{length_of}
+use Rattle.hamming.proofs.Lengths.{length_least, length_most}
 use Rattle.hamming.proofs.Sums.{flip_is}
 use Rattle.hamming.proofs.repair.flipped.Goals as goal
 
@@ -14,7 +16,8 @@ weight k h = ap (λ (x : ℕ). x % 256) (one-mul (2 ^ k)) ∙ mod-eq_of_lt (pow-
 
 pub returns : goal.returns
 returns c =
-    let n = c.args.n in
-    let k = c.args.k in
-    let h : n - 1 - k < 8 = omega arith in
-    ap (bit_xor c.args.word) (weight (n - 1 - k) h) ∙ flip_is n k c.args.word c.requires.0 c.requires.1 c.requires.2 c.requires.3
+    let a = c.args in
+    let n = length_of a.length in
+    let most = length_most a.length in
+    let h : n - 1 - a.k < 8 = omega arith in
+    rw c.bits.ensures (ap (bit_xor a.word) (weight (n - 1 - a.k) h) ∙ flip_is n a.k a.word (length_least a.length) most c.requires.0 c.requires.1)
