@@ -31,7 +31,7 @@ impl WordLength {
     }
 
     // The weight of the lowest data bit: the parity bits stand below it.
-    pub(crate) fn data_weight(self) -> u8
+    pub fn data_weight(self) -> u8
         ensures equal { result ≡ 2 ^ check_bits (length_of self) }
         ensures positive { 0 < result }
     {

@@ -3,7 +3,8 @@
 use mathlib.Core.Path.{◌≡◌, refl, sym, ap, ◌∙◌}
 use mathlib.Core.Bool.{Bool, true, false, cond, ◌||◌, or-false, and-false}
 use mathlib.Core.List.{List, [], ◌∷◌}
-use Prim.Native.Nat.{ℕ, suc, ◌+◌, ◌*◌, ◌≤◌, ◌<◌}
+use Prim.Native.Nat.{ℕ, suc, ◌+◌, ◌*◌, ◌≤◌, ◌<◌, min}
+use native.Mathlib.Numerals.{add-one}
 use native.Mathlib.Omega.{arith}
 use lib.Dec.{eqb, ltb}
 use borrow.Author.Tests.{ltb-true, ltb-false, lt-ltb, le-ltb}
@@ -39,10 +40,10 @@ module _ (prices : List ℕ) where
 
   -- its number is the smaller of two
   pub number_more : (i : ℕ) → i < 16
-      → key_number prices (least_by key_in (suc i))
-      ≡ cond (ltb (key_number prices i) (key_number prices (least_by key_in i))) (key_number prices i) (key_number prices (least_by key_in i))
-  number_more i h = ap (key_number prices) (least_more i h) ∙ go (ltb (key_number prices i) (key_number prices (least_by key_in i)))
+      → key_number prices (least_by key_in (i + 1)) ≡ min (key_number prices (least_by key_in i)) (key_number prices i)
+  number_more i h = rw add-one (ap (key_number prices) (least_more i h) ∙ go (ltb (key_number prices i) (key_number prices (least_by key_in i))) refl)
     where
-      go : (t : Bool) → key_number prices (cond t i (least_by key_in i)) ≡ cond t (key_number prices i) (key_number prices (least_by key_in i))
-      go true = refl
-      go false = refl
+      go : (t : Bool) → ltb (key_number prices i) (key_number prices (least_by key_in i)) ≡ t
+          → key_number prices (cond t i (least_by key_in i)) ≡ min (key_number prices (least_by key_in i)) (key_number prices i)
+      go true e = omega (arith, ltb-true _ _ e)
+      go false e = omega (arith, ltb-false _ _ e)

@@ -16,50 +16,30 @@ fn key_of(price: u16, u: u16) -> u16
     price / 16 * 16 + u
 }
 
-// The smaller of two numbers.
-fn smaller(a: u16, b: u16) -> u16
-    ensures { result ≡ cond (ltb b a) b a }
-{
-    if b < a { b } else { a }
-}
-
 // The key of the cheapest code word. Of equal costs the smallest data have the least key.
-fn least_key(prices: [u16; 16]) -> u16
-    ensures { result ≡ key_number prices (least_in prices) }
+fn least_key(prices: &[u16; 16]) -> u16
+    ensures { result ≡ key_number prices.now (least_in prices.now) }
 {
     let mut least = key_of(prices[0], 0);
-    for u in 0..16 {
-        least = smaller(least, key_of(prices[u], u as u16));
+    for (u, &price) in prices.iter().enumerate() {
+        least = least.min(key_of(price, u as u16));
     }
     least
 }
 
-// 1 for a code word that has this cost, 0 for any other.
-fn counted(price: u16, cost: u16) -> u8
-    ensures number { result ≡ bit_num (eqb (price / 16) cost) }
-    ensures bound { result ≤ 1 }
-{
-    if price / 16 == cost { 1 } else { 0 }
-}
-
 // How many code words have this cost.
-fn count_of(prices: [u16; 16], cost: u16) -> u8
-    ensures { result ≡ as_cheap prices cost }
+fn count_of(prices: &[u16; 16], cost: u16) -> usize
+    ensures { result ≡ as_cheap prices.now cost }
 {
-    let mut count: u8 = 0;
-    for u in 0..16 {
-        count = count + counted(prices[u], cost);
-    }
-    count
+    prices.iter().filter(|&&price| price / 16 == cost).count()
 }
 
 // Whether the word is erased where this is the least cost: word A, by two or more code words that have it.
-fn erases(length: WordLength, prices: [u16; 16], cost: u16) -> bool
-    ensures { result ≡ (eqb (length_of length) 8 && leb 2 (as_cheap prices cost)) }
+fn erases(length: WordLength, prices: &[u16; 16], cost: u16) -> bool
+    ensures { result ≡ (eqb (length_of length) 8 && leb 2 (as_cheap prices.now cost)) }
 {
     match length {
-        WordLength::Six => false,
-        WordLength::Seven => false,
+        WordLength::Six | WordLength::Seven => false,
         WordLength::Eight => 2 <= count_of(prices, cost),
     }
 }
@@ -77,11 +57,11 @@ pub fn choose(length: WordLength, word: u8, confidences: [u8; 8]) -> Option<Word
     ensures { result ≡ choose (length_of length) (take (length_of length) confidences) (bits (length_of length) word) }
 {
     let prices = prices(length, word, confidences);
-    let key = least_key(prices);
-    let data = key % 16;
-    if erases(length, prices, key / 16) {
+    let key = least_key(&prices);
+    if erases(length, &prices, key / 16) {
         return None;
     }
+    let data = key % 16;
     Some(Word {
         data: data as u8,
         repaired: places_in(prices[data as usize]),

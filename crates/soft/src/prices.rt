@@ -8,12 +8,11 @@ ghost use Rattle.soft.specs.Prices.{price, SumsOf, entry_price, EntryFits, price
 
 use hamming::{WordLength, parity_of};
 
-// What came of a word, and how many code words it has.
+// What came of a word.
 #[derive(Clone, Copy)]
 struct Came {
     data: u8,
     parity: u8,
-    count: usize,
 }
 
 // The price of a place that differs.
@@ -21,7 +20,7 @@ fn price(confidence: u8) -> u16
     ensures price { result ≡ price confidence }
     ensures bound { result ≤ 4081 }
 {
-    confidence as u16 * 16 + 1
+    u16::from(confidence) * 16 + 1
 }
 
 // The sums of any of four prices, by the number whose bits say which; the first goes with the most significant.
@@ -52,25 +51,26 @@ fn sums(q0: u8, q1: u8, q2: u8, q3: u8) -> [u16; 16]
     ]
 }
 
-// The sums over the data bits. Word B has three, so the number in front of them plays no part.
-fn data_sums(length: WordLength, q: [u8; 8]) -> [u16; 16]
-    ensures { SumsOf (map price (take (data_bits (length_of length)) (take (length_of length) q))) result }
+// The sums over the data bits, and those over the parity bits. Of either a word has three or four; where it has three, the number
+// in front of them plays no part.
+fn sums_of(length: WordLength, q: [u8; 8]) -> ([u16; 16], [u16; 16])
+    ensures data { SumsOf (map price (take (data_bits (length_of length)) (take (length_of length) q))) result.0 }
+    ensures parity { SumsOf (map price (drop (data_bits (length_of length)) (take (length_of length) q))) result.1 }
 {
     match length {
-        WordLength::Six => sums(0, q[0], q[1], q[2]),
-        WordLength::Seven => sums(q[0], q[1], q[2], q[3]),
-        WordLength::Eight => sums(q[0], q[1], q[2], q[3]),
+        WordLength::Six => (sums(0, q[0], q[1], q[2]), sums(0, q[3], q[4], q[5])),
+        WordLength::Seven => (sums(q[0], q[1], q[2], q[3]), sums(0, q[4], q[5], q[6])),
+        WordLength::Eight => (sums(q[0], q[1], q[2], q[3]), sums(q[4], q[5], q[6], q[7])),
     }
 }
 
-// The sums over the parity bits, of which only word A has four.
-fn parity_sums(length: WordLength, q: [u8; 8]) -> [u16; 16]
-    ensures { SumsOf (map price (drop (data_bits (length_of length)) (take (length_of length) q))) result }
+// How many code words a word has.
+fn code_words(length: WordLength) -> u8
+    ensures { result ≡ code_words (length_of length) }
 {
     match length {
-        WordLength::Six => sums(0, q[3], q[4], q[5]),
-        WordLength::Seven => sums(0, q[4], q[5], q[6]),
-        WordLength::Eight => sums(q[4], q[5], q[6], q[7]),
+        WordLength::Six => 8,
+        WordLength::Seven | WordLength::Eight => 16,
     }
 }
 
@@ -78,25 +78,12 @@ fn parity_sums(length: WordLength, q: [u8; 8]) -> [u16; 16]
 fn parts_of(length: WordLength, word: u8) -> Came
     ensures data { bits (data_bits (length_of length)) result.data ≡ data_of (length_of length) (bits (length_of length) word) }
     ensures parity { bits (check_bits (length_of length)) result.parity ≡ drop (data_bits (length_of length)) (bits (length_of length) word) }
-    ensures count { result.count ≡ code_words (length_of length) }
     ensures bounds { (result.data < code_words (length_of length)) × (result.parity < 2 ^ check_bits (length_of length)) }
 {
-    match length {
-        WordLength::Six => Came {
-            data: word / 8 % 8,
-            parity: word % 8,
-            count: 8,
-        },
-        WordLength::Seven => Came {
-            data: word / 8 % 16,
-            parity: word % 8,
-            count: 16,
-        },
-        WordLength::Eight => Came {
-            data: word / 16,
-            parity: word % 16,
-            count: 16,
-        },
+    let weight = length.data_weight();
+    Came {
+        data: word / weight % code_words(length),
+        parity: word % weight,
     }
 }
 
@@ -115,14 +102,13 @@ pub(crate) fn prices(length: WordLength, word: u8, q: [u8; 8]) -> [u16; 16]
     ensures prices { result ≡ prices_of (length_of length) (take (length_of length) q) (bits (length_of length) word) }
     ensures bound { PricesFit (length_of length) (take (length_of length) q) (bits (length_of length) word) }
 {
-    let of_data = data_sums(length, q);
-    let of_parity = parity_sums(length, q);
+    let (of_data, of_parity) = sums_of(length, q);
     let came = parts_of(length, word);
     let mut prices = [DEAREST; 16];
-    for u in 0..came.count {
-        prices[u] = price_at(length, came, &of_data, &of_parity, u as u8);
+    for u in 0..code_words(length) {
+        prices[u as usize] = price_at(length, came, &of_data, &of_parity, u);
     }
     prices
 }
 
-const DEAREST: u16 = 65535;
+const DEAREST: u16 = u16::MAX;
