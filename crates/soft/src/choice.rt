@@ -1,6 +1,6 @@
 // The cheapest code word of a word, by the prices of all of them.
-ghost use Rattle.std.specs.Prelude.{◌≡◌, cond, ◌&&◌, ◌+◌, ◌*◌, ◌/◌, ◌%◌, ◌≤◌, ◌<◌, eqb, ltb, leb, take};
-ghost use Rattle.bits.specs.Bits.{bit_num, bits};
+ghost use Rattle.std.specs.Prelude.{◌≡◌, ◌&&◌, ◌+◌, ◌*◌, ◌/◌, ◌%◌, ◌<◌, eqb, leb, take};
+ghost use Rattle.bits.specs.Bits.{bits};
 ghost use Rattle.hamming.specs.Word.{length_of};
 ghost use Rattle.soft.specs.Choice.{choose};
 ghost use Rattle.soft.specs.Prices.{key_number, least_in, as_cheap};
