@@ -7,3 +7,4 @@ pub mod SoftExtent
 pub mod SoftRanges
 pub mod SoftEqual
 pub mod SoftClaims
+pub mod ReadsWith

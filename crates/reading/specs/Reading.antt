@@ -1,5 +1,5 @@
 -- Document 01, "Receiver" and "The four words": what a frame's logical bits are read as.
-use Rattle.std.specs.Prelude.{ℕ, ◌+◌, ◌*◌, ◌/◌, ◌%◌, Bool, true, cond, List, ◌++◌, eqb, take, drop, Option, None, Some}
+use Rattle.std.specs.Prelude.{ℕ, ◌+◌, ◌*◌, ◌/◌, ◌%◌, ◌≡◌, Bool, true, cond, List, ◌++◌, eqb, take, drop, Option, None, Some}
 use Rattle.bits.specs.Bits.{ones, value}
 use Rattle.pitch.specs.Pitch.{class_of}
 use Rattle.pitch.specs.declared.PitchClass.{PitchClass}
@@ -64,6 +64,12 @@ abbrev pub by_class : (ℕ → Bool) → PitchClass → Option Accepted
 by_class g class.Unvoiced = from_words g (decode 8 (word_a g)) (decode 6 (word_b g)) (decode 7 (word_c g)) (decode 7 (word_d g))
 by_class g class.Erased = None
 by_class g (class.Voiced i) = accepted_as (Voiced (indices_of g (as_received 8 (word_a g)) (as_received 6 (word_b g)) (as_received 7 (word_c g)) (as_received 7 (word_d g))) (voicing_of g i)) 0
+
+-- by the class of the pitch code, where an unvoiced frame is read so that P holds: a helper of the code above
+abbrev pub ReadsWith : (Option Accepted → Type 0) → (ℕ → Bool) → PitchClass → Option Accepted → Type 0
+ReadsWith P g class.Unvoiced r = P r
+ReadsWith P g class.Erased r = r ≡ by_class g class.Erased
+ReadsWith P g (class.Voiced i) r = r ≡ by_class g (class.Voiced i)
 
 -- what 54 logical bits are read as; the sync bit plays no part
 unfoldable pub read : (ℕ → Bool) → Option Accepted

@@ -6,27 +6,23 @@ ghost use Rattle.reading.specs.SoftReading.{soft_by_class, soft_read};
 
 use crate::Accepted;
 use crate::parts::part;
-use crate::pitch_code::class_of;
-use crate::unpacking::{from_words, voiced};
+use crate::unpacking::{from_words, read_with};
 use hamming::WordLength;
-use pitch::PitchClass;
 use soft::choose;
 
 // The confidences of eight logical bits in a row.
-fn eight(confidences: [u8; 54], first: usize) -> [u8; 8]
+fn eight(confidences: &[u8; 54], first: usize) -> [u8; 8]
     requires { first ≤ 46 }
-    ensures { result ≡ cut (λ j. get_or confidences j 0) first 8 }
+    ensures { result ≡ cut (λ j. get_or confidences.now j 0) first 8 }
 {
     let mut found = [0; 8];
-    for i in 0..8 {
-        found[i] = confidences[first + i];
-    }
+    found.copy_from_slice(&confidences[first..first + 8]);
     found
 }
 
 // An unvoiced frame: each word is chosen by the confidences of its bits. Of eight the shorter words take the first few.
-fn soft_unvoiced(bits: u64, confidences: [u8; 54]) -> Option<Accepted>
-    ensures { result ≡ soft_by_class (carried 54 bits) (λ j. get_or confidences j 0) class.Unvoiced }
+fn soft_unvoiced(bits: u64, confidences: &[u8; 54]) -> Option<Accepted>
+    ensures { result ≡ soft_by_class (carried 54 bits) (λ j. get_or confidences.now j 0) class.Unvoiced }
 {
     let a = choose(WordLength::Eight, part(bits, 0, 8), eight(confidences, 0));
     let b = choose(WordLength::Six, part(bits, 8, 6), eight(confidences, 8));
@@ -40,10 +36,5 @@ fn soft_unvoiced(bits: u64, confidences: [u8; 54]) -> Option<Accepted>
 pub fn read_soft(bits: u64, confidences: [u8; 54]) -> Option<Accepted>
     ensures { result ≡ soft_read (carried 54 bits) (λ j. get_or confidences j 0) }
 {
-    let class = class_of(part(bits, 28, 7));
-    match class {
-        PitchClass::Unvoiced => soft_unvoiced(bits, confidences),
-        PitchClass::Erased => None,
-        PitchClass::Voiced(pitch) => voiced(bits, pitch),
-    }
+    read_with(bits, || soft_unvoiced(bits, &confidences))
 }

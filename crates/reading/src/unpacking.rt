@@ -1,10 +1,11 @@
 // Unpacking: what 54 logical bits, carried in one number, are read as. Logical bit 0 is the most significant.
-ghost use Rattle.std.specs.Prelude.{◌≡◌, ◌+◌, ◌≤◌};
+ghost use Rattle.std.specs.Prelude.{◌≡◌, Some};
 ghost use Rattle.bits.specs.Bits.{carried};
 ghost use Rattle.hamming.specs.Word.{Bounded};
 ghost use Rattle.order.specs.Fields.{pitch_bits};
+ghost use Rattle.pitch.specs.Pitch.{class_of};
 ghost use Rattle.pitch.specs.declared.PitchClass.TheVariants as class;
-ghost use Rattle.reading.specs.Reading.{pitch_repaired, from_words, by_class, read};
+ghost use Rattle.reading.specs.Reading.{from_words, by_class, read, ReadsWith};
 
 use crate::Accepted;
 use crate::parts::{indices, part, voicing};
@@ -14,23 +15,15 @@ use pitch::PitchClass;
 use sets::ParameterSet;
 
 // A voiced frame: the bits as they stand.
-pub(crate) fn voiced(bits: u64, pitch: u8) -> Option<Accepted>
-    ensures { result ≡ by_class (carried 54 bits) (class.Voiced pitch) }
+fn voiced(bits: u64, pitch: u8) -> Accepted
+    ensures { Some result ≡ by_class (carried 54 bits) (class.Voiced pitch) }
 {
     let a = part(bits, 0, 4);
     let b = part(bits, 8, 3);
     let c = part(bits, 14, 4);
     let d = part(bits, 21, 4);
     let set = ParameterSet::Voiced(indices(bits, a, b, c, d), voicing(bits, pitch));
-    Some(Accepted { set, repaired: 0 })
-}
-
-// The repaired count of an unvoiced frame: that of its pitch code, and those of its words.
-fn repaired_in(bits: u64, i: u8, j: u8, k: u8, l: u8) -> u8
-    requires { i + j + k + l ≤ 28 }
-    ensures { result ≡ pitch_repaired (pitch_bits (carried 54 bits)) + i + j + k + l }
-{
-    pitch_repaired(part(bits, 28, 7)) + i + j + k + l
+    Accepted { set, repaired: 0 }
 }
 
 // An unvoiced frame, from the outcomes of its four words, however they were chosen.
@@ -49,7 +42,7 @@ pub(crate) fn from_words(
     let c = c?;
     let d = d?;
     let set = ParameterSet::Unvoiced(indices(bits, a.data, b.data, c.data, d.data));
-    let repaired = repaired_in(bits, a.repaired, b.repaired, c.repaired, d.repaired);
+    let repaired = pitch_repaired(bits) + a.repaired + b.repaired + c.repaired + d.repaired;
     Some(Accepted { set, repaired })
 }
 
@@ -64,14 +57,21 @@ fn unvoiced(bits: u64) -> Option<Accepted>
     from_words(bits, a, b, c, d)
 }
 
+// What a frame is read as by the class of its pitch code, where the call of `unvoiced` reads an unvoiced one.
+pub(crate) fn read_with<F: FnOnce() -> Option<Accepted>>(bits: u64, unvoiced: F) -> Option<Accepted>
+    requires { F.pre unvoiced }
+    ensures { ReadsWith (F.post unvoiced) (carried 54 bits) (class_of (pitch_bits (carried 54 bits))) result }
+{
+    match class_of(bits) {
+        PitchClass::Unvoiced => unvoiced(),
+        PitchClass::Erased => None,
+        PitchClass::Voiced(pitch) => Some(voiced(bits, pitch)),
+    }
+}
+
 // What the logical bits in the low 54 bits of a number are read as.
 pub fn read(bits: u64) -> Option<Accepted>
     ensures { result ≡ read (carried 54 bits) }
 {
-    let class = class_of(part(bits, 28, 7));
-    match class {
-        PitchClass::Unvoiced => unvoiced(bits),
-        PitchClass::Erased => None,
-        PitchClass::Voiced(pitch) => voiced(bits, pitch),
-    }
+    read_with(bits, || unvoiced(bits))
 }

@@ -34,7 +34,7 @@ module _ (at-d : After-choose-d) where
   g = carried 54 start.args.bits
 
   abbrev q : ℕ → ℕ
-  q j = get_or start.args.confidences j 0
+  q j = get_or start.args.confidences.now j 0
 
   read_a : at_a.choose-a.result ≡ choose 8 (word_a q) (word_a g)
   read_a =
