@@ -20,7 +20,7 @@ impl WordLength {
     ghost use Rattle.hamming.specs.Word.{length_of, check_bits};
 
     // The number of bits.
-    pub(crate) fn bits(self) -> u8
+    pub fn bits(self) -> usize
         ensures { result ≡ length_of self }
     {
         match self {

@@ -33,7 +33,7 @@ fn flipped(length: WordLength, word: u8, k: u8) -> u8
     requires { (k < length_of length) × (word < 2 ^ length_of length) }
     ensures { result ≡ value (flip_at k (bits (length_of length) word)) }
 {
-    word ^ (1 << (length.bits() - 1 - k))
+    word ^ (1 << (length.bits() - 1 - k as usize))
 }
 
 // The outcome of the word in the low bits of a number: the table is asked at its syndrome.

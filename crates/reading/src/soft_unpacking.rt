@@ -1,13 +1,15 @@
 // Unpacking with confidences: what 54 logical bits are read as where each has one.
 ghost use Rattle.std.specs.Prelude.{◌≡◌, ◌≤◌, get_or};
 ghost use Rattle.bits.specs.Bits.{cut, carried};
+ghost use Rattle.hamming.specs.Word.{length_of, Bounded};
+ghost use Rattle.soft.specs.Choice.{choose};
 ghost use Rattle.pitch.specs.declared.PitchClass.TheVariants as class;
 ghost use Rattle.reading.specs.SoftReading.{soft_by_class, soft_read};
 
 use crate::Accepted;
 use crate::parts::part;
 use crate::unpacking::{from_words, read_with};
-use hamming::WordLength;
+use hamming::{Word, WordLength};
 use soft::choose;
 
 // The confidences of eight logical bits in a row.
@@ -20,14 +22,29 @@ fn eight(confidences: &[u8; 54], first: usize) -> [u8; 8]
     found
 }
 
-// An unvoiced frame: each word is chosen by the confidences of its bits. Of eight the shorter words take the first few.
+// The outcome of the word that stands from a bit on: it is chosen by the confidences of its bits. Of eight the shorter words
+// take the first few.
+fn chosen(length: WordLength, bits: u64, confidences: &[u8; 54], first: usize) -> Option<Word>
+    requires { first ≤ 46 }
+    ensures outcome { result ≡ choose (length_of length) (cut (λ j. get_or confidences.now j 0) first (length_of length)) (cut (carried 54 bits) first (length_of length)) }
+    ensures bound { Bounded (length_of length) result }
+{
+    choose(
+        length,
+        part(bits, first, length.bits()),
+        eight(confidences, first),
+    )
+}
+
+// An unvoiced frame: each word is chosen by the confidences of its bits. It is as without confidences but for the call at each
+// word; a closure in its place would need clauses of its own, for where it may be called and for the bound of what it gives.
 fn soft_unvoiced(bits: u64, confidences: &[u8; 54]) -> Option<Accepted>
     ensures { result ≡ soft_by_class (carried 54 bits) (λ j. get_or confidences.now j 0) class.Unvoiced }
 {
-    let a = choose(WordLength::Eight, part(bits, 0, 8), eight(confidences, 0));
-    let b = choose(WordLength::Six, part(bits, 8, 6), eight(confidences, 8));
-    let c = choose(WordLength::Seven, part(bits, 14, 7), eight(confidences, 14));
-    let d = choose(WordLength::Seven, part(bits, 21, 7), eight(confidences, 21));
+    let a = chosen(WordLength::Eight, bits, confidences, 0);
+    let b = chosen(WordLength::Six, bits, confidences, 8);
+    let c = chosen(WordLength::Seven, bits, confidences, 14);
+    let d = chosen(WordLength::Seven, bits, confidences, 21);
     from_words(bits, a, b, c, d)
 }
 

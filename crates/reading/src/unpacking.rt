@@ -1,7 +1,7 @@
 // Unpacking: what 54 logical bits, carried in one number, are read as. Logical bit 0 is the most significant.
-ghost use Rattle.std.specs.Prelude.{◌≡◌, Some};
-ghost use Rattle.bits.specs.Bits.{carried};
-ghost use Rattle.hamming.specs.Word.{Bounded};
+ghost use Rattle.std.specs.Prelude.{◌≡◌, ◌+◌, ◌≤◌, Some};
+ghost use Rattle.bits.specs.Bits.{cut, carried};
+ghost use Rattle.hamming.specs.Word.{length_of, decode, Bounded};
 ghost use Rattle.order.specs.Fields.{pitch_bits};
 ghost use Rattle.pitch.specs.Pitch.{class_of};
 ghost use Rattle.pitch.specs.declared.PitchClass.TheVariants as class;
@@ -46,14 +46,23 @@ pub(crate) fn from_words(
     Some(Accepted { set, repaired })
 }
 
+// The outcome of the word that stands from a bit on: it is checked and repaired.
+fn decoded(length: WordLength, bits: u64, first: usize) -> Option<Word>
+    requires { first + length_of length ≤ 54 }
+    ensures outcome { result ≡ decode (length_of length) (cut (carried 54 bits) first (length_of length)) }
+    ensures bound { Bounded (length_of length) result }
+{
+    decode(length, part(bits, first, length.bits()))
+}
+
 // An unvoiced frame: each word is checked and repaired.
 fn unvoiced(bits: u64) -> Option<Accepted>
     ensures { result ≡ by_class (carried 54 bits) class.Unvoiced }
 {
-    let a = decode(WordLength::Eight, part(bits, 0, 8));
-    let b = decode(WordLength::Six, part(bits, 8, 6));
-    let c = decode(WordLength::Seven, part(bits, 14, 7));
-    let d = decode(WordLength::Seven, part(bits, 21, 7));
+    let a = decoded(WordLength::Eight, bits, 0);
+    let b = decoded(WordLength::Six, bits, 8);
+    let c = decoded(WordLength::Seven, bits, 14);
+    let d = decoded(WordLength::Seven, bits, 21);
     from_words(bits, a, b, c, d)
 }
 
