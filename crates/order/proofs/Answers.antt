@@ -3,7 +3,7 @@
 use mathlib.Core.Path.{◌≡◌, refl, sym, ap, ◌∙◌}
 use mathlib.Core.Bool.{Bool, true, false, not}
 use mathlib.Core.List.{List, [], ◌∷◌}
-use Prim.Native.Nat.{ℕ, ◌+◌, ◌*◌, ◌-◌, ◌%◌, ◌≤◌, ◌<◌}
+use Prim.Native.Nat.{ℕ, ◌+◌, ◌*◌, ◌%◌, ◌<◌}
 use native.Mathlib.Omega.{arith}
 use lib.Dec.{eqb}
 use lib.ListN.{length, get_or}
@@ -28,21 +28,14 @@ ones_value_zero false true = refl
 ones_value_zero false false = refl
 
 module _ (bytes : List ℕ) where
-  -- one byte more of those from a byte on
-  pub byte_more : (first i x : ℕ) → first ≤ i → get_or bytes i 0 < 256 → x ≡ value (cut (bit_at bytes) (8 * first) (8 * (i - first)))
-      → x * 256 + get_or bytes i 0 ≡ value (cut (bit_at bytes) (8 * first) (8 * (i + 1 - first)))
-  byte_more first i x l h e =
-      let at : 8 * first + 8 * (i - first) ≡ 8 * i = omega arith in
-      let more : 8 * (i - first) + 8 ≡ 8 * (i + 1 - first) = omega arith in
-      value_more (bit_at bytes) (8 * first) (8 * (i - first)) 8 x (get_or bytes i 0) e
-      (sym (byte_back bytes i h) ∙ ap (λ (k : ℕ). value (cut (bit_at bytes) k 8)) (sym at))
-      ∙ ap (λ (n : ℕ). value (cut (bit_at bytes) (8 * first) n)) more
-
-  -- four bytes, two and one are all 56 places
-  pub bytes_all : (x y z : ℕ) → x ≡ value (cut (bit_at bytes) 0 32) → y ≡ value (cut (bit_at bytes) 32 16) → z ≡ value (cut (bit_at bytes) 48 8)
-      → (x * 65536 + y) * 256 + z ≡ value (cut (bit_at bytes) 0 56)
-  bytes_all x y z e f g =
-      value_more (bit_at bytes) 0 48 8 (x * 65536 + y) z (value_more (bit_at bytes) 0 32 16 x y e f) g
+  -- seven bytes, joined one after the other, are all 56 places
+  pub bytes_all : ((i : ℕ) → get_or bytes i 0 < 256)
+      → let at : ℕ → ℕ = λ i. get_or bytes i 0 in
+      (((((at 0 * 256 + at 1) * 256 + at 2) * 256 + at 3) * 256 + at 4) * 256 + at 5) * 256 + at 6 ≡ value (cut (bit_at bytes) 0 56)
+  bytes_all h =
+      let byte : (i : ℕ) → get_or bytes i 0 ≡ value (cut (bit_at bytes) (8 * i) 8) = λ i. sym (byte_back bytes i (h i)) in
+      let more = value_more (bit_at bytes) 0 in
+      more 48 8 _ _ (more 40 8 _ _ (more 32 8 _ _ (more 24 8 _ _ (more 16 8 _ _ (more 8 8 _ _ (byte 0) (byte 1)) (byte 2)) (byte 3)) (byte 4)) (byte 5)) (byte 6)
 
   -- the padding is clear where the last byte is a multiple of 4
   padding_test : eqb (ones (padding bytes)) 0 ≡ eqb (get_or bytes 6 0 % 4) 0

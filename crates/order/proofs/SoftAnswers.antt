@@ -1,6 +1,6 @@
 -- What a call that takes a frame's logical bits with confidences owes in each of its cases, by what was taken without them.
 -- Assumes nothing.
-use mathlib.Core.Path.{◌≡◌, sym, ap, ◌∙◌}
+use mathlib.Core.Path.{◌≡◌, sym, ap, ap₂, ◌∙◌}
 use mathlib.Core.Bool.{Bool, true, false, not}
 use mathlib.Core.List.{List, [], ◌∷◌, ◌++◌}
 use Prim.Native.Nat.{ℕ}
@@ -52,8 +52,9 @@ module _ (ord bytes : List ℕ) where
       pub count_owes : (length confidences ≡ 54 → ⊥) → Err ConfidenceCount ≡ soft_bits ord bytes confidences
       count_owes h = owes (Some ConfidenceCount) (taken_decides false (ne_eqb (length confidences) 54 h))
 
-      -- 54
-      pub soft_owes : length confidences ≡ 54 → Ok (record { bits = n; confidences = cut (confidence_of ord confidences) 0 54 }) ≡ soft_bits ord bytes confidences
-      soft_owes h =
-          ap (λ (k : ℕ). Ok (record { bits = k; confidences = cut (confidence_of ord confidences) 0 54 })) (bits_taken ord bytes n e).1
+      -- 54, found in the order's list
+      pub soft_owes : length confidences ≡ 54 → (numbers lent found : List ℕ) → numbers ≡ ord → lent ≡ confidences → found ≡ cut (confidence_of numbers lent) 0 54
+          → Ok (record { bits = n; confidences = found }) ≡ soft_bits ord bytes confidences
+      soft_owes h numbers lent found o l q =
+          ap₂ (λ (k : ℕ) (xs : List ℕ). Ok (record { bits = k; confidences = xs })) (bits_taken ord bytes n e).1 (q ∙ ap₂ (λ (xs ys : List ℕ). cut (confidence_of xs ys) 0 54) o l)
           ∙ owes None (taken_decides true (eq-eqb (length confidences) 54 h))

@@ -5,3 +5,4 @@ pub mod Listing
 pub mod Placing
 pub mod Taking
 pub mod SoftTaking
+pub mod Tested

@@ -1,5 +1,6 @@
 // The order of a frame's bits: which logical bit stands at which place, and the seven bytes of the places.
 //
+//   tested       an order that has been tested
 //   list         the default order, and the test of an order
 //   place        54 logical bits to seven bytes
 //   taking       seven bytes to 54 logical bits
@@ -10,6 +11,7 @@ mod list;
 mod place;
 mod soft_taking;
 mod taking;
+mod tested;
 
 pub use list::{default_order, is_order};
 pub use place::place_bits;

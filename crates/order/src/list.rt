@@ -1,16 +1,12 @@
 // Lists of logical numbers: the default order, and the test of an order.
-ghost use Rattle.std.specs.Prelude.{◌≡◌, ◌+◌, ◌≤◌, ◌<◌, length};
+ghost use Rattle.std.specs.Prelude.{◌≡◌, ◌<◌, true, false, MatchResult};
 ghost use Rattle.order.specs.Order.{default_order, is_order};
 ghost use Rattle.order.specs.Carrying.{next_place};
-ghost use Rattle.order.specs.Listing.{NamedTo, same_numbers};
+ghost use Rattle.order.specs.Listing.{same_numbers};
+ghost use Rattle.order.specs.Tested.{numbers};
 
-// The default order under way: the next logical bit, its place, and the entries so far.
-#[derive(Clone, Copy)]
-struct Numbering {
-    bit: usize,
-    place: usize,
-    entries: [u8; 54],
-}
+use crate::tested::{Listed, Order};
+use refusal::Refusal;
 
 // The place of the next logical bit.
 fn next_place(place: usize) -> usize
@@ -21,80 +17,69 @@ fn next_place(place: usize) -> usize
     if 54 <= next { next - 54 } else { next }
 }
 
-// Nine logical bits more, each named at the place that is carried to it.
-fn name_nine(from: Numbering) -> Numbering
-    requires { (from.bit ≤ 45) × NamedTo from.bit from.place from.entries }
-    ensures counted { result.bit ≡ from.bit + 9 }
-    ensures named { NamedTo result.bit result.place result.entries }
-{
-    let mut place = from.place;
-    let mut entries = from.entries;
-    for i in 0..9 {
-        entries[place] = (from.bit + i) as u8;
-        place = next_place(place);
-    }
-    Numbering {
-        bit: from.bit + 9,
-        place,
-        entries,
-    }
-}
-
-// The default order, by a place that is carried along (document 02, T-04).
+// The default order, by a place that is carried along (document 02, T-04). Nine bits are named in one loop and six of these name
+// all: so a compiler unrolls both, and every entry is a constant, which it is not with one loop of 54.
 pub fn default_order() -> [u8; 54]
     ensures { result ≡ default_order }
 {
-    let mut numbering = Numbering {
-        bit: 0,
-        place: 0,
-        entries: [0; 54],
-    };
-    while numbering.bit < 54 {
-        numbering = name_nine(numbering);
+    let mut entries = [0; 54];
+    let mut place = 0;
+    for nine in 0..6 {
+        for i in 0..9 {
+            entries[place] = 9 * nine + i;
+            place = next_place(place);
+        }
     }
-    numbering.entries
+    entries
 }
 
 // Whether a list of 54 is the default order: all entries are compared, without an early end, so that a compiler compares many at once.
-pub(crate) fn is_default(order: &[u8]) -> bool
-    requires { length order.now ≡ 54 }
-    ensures { result ≡ same_numbers order.now default_order }
+fn is_default(list: &[u8; 54]) -> bool
+    ensures { result ≡ same_numbers list.now default_order }
 {
-    let list = default_order();
-    let mut differ: u8 = 0;
-    for t in 0..54 {
-        differ = differ | (order[t] ^ list[t]);
+    let default = default_order();
+    let mut differ = 0;
+    for (t, j) in list.iter().enumerate() {
+        differ |= j ^ default[t];
     }
     differ == 0
 }
 
 // Whether each logical number stands once in a list of 54: bit j of `seen` is set where j has been seen.
-pub(crate) fn each_once(order: &[u8]) -> bool
-    requires { length order.now ≡ 54 }
-    ensures { result ≡ is_order order.now }
+fn each_once(list: &[u8; 54]) -> bool
+    ensures { result ≡ is_order list.now }
 {
     let mut seen: u64 = 0;
-    for t in 0..54 {
-        let j = order[t];
+    for &j in list {
         if 54 <= j {
             return false;
         }
-        seen = seen | (1 << j);
+        seen |= 1 << j;
     }
     seen == ALL_SEEN
 }
 
-// Whether a list is an order: 54 entries, each logical number once. The default order is known by one comparison.
+// The order in a list, unless it is none. The default order is known by one comparison, so that who lends it does not pay for the others.
+pub(crate) fn tested(list: &[u8]) -> Result<Order, Refusal>
+    ensures { MatchResult result (λ order. (numbers order ≡ list.now) × (is_order list.now ≡ true)) (λ f. (is_order list.now ≡ false) × (f ≡ Refusal.InvalidOrder)) }
+{
+    let Some(list) = list.as_array::<54>() else {
+        return Err(Refusal::InvalidOrder);
+    };
+    if is_default(list) {
+        return Ok(Order::Default);
+    }
+    if each_once(list) {
+        return Ok(Order::Other(Listed { list }));
+    }
+    Err(Refusal::InvalidOrder)
+}
+
+// Whether a list is an order: 54 entries, each logical number once.
 pub fn is_order(order: &[u8]) -> bool
     ensures { result ≡ is_order order.now }
 {
-    if order.len() != 54 {
-        return false;
-    }
-    if is_default(order) {
-        return true;
-    }
-    each_once(order)
+    tested(order).is_ok()
 }
 
 // Each of the bits 0 to 53: 2 to the 54th, less 1.

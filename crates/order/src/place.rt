@@ -1,10 +1,11 @@
 // The seven bytes of 54 logical bits in an order.
-ghost use Rattle.std.specs.Prelude.{◌≡◌, true};
+ghost use Rattle.std.specs.Prelude.{◌≡◌};
 ghost use Rattle.bits.specs.Bits.{value, cut, carried};
-ghost use Rattle.order.specs.Order.{is_order, default_order, placed, byte_of};
+ghost use Rattle.order.specs.Order.{default_order, placed, byte_of};
 ghost use Rattle.order.specs.Placing.{placed_bits};
 
-use crate::list::{each_once, is_default};
+use crate::list::tested;
+use crate::tested::{Listed, Order};
 use refusal::Refusal;
 
 // The 56 places of 54 logical bits in the default order. Bits that stand as far from where they go move together, by a shift
@@ -30,14 +31,13 @@ fn scatter(bits: u64) -> u64
 }
 
 // The 56 places in any order: place after place, the bit that the order names there.
-fn place_each(bits: u64, order: &[u8]) -> u64
-    requires { is_order order.now ≡ true }
-    ensures { result ≡ value (cut (placed order.now (carried 54 bits)) 0 56) }
+fn place_each(bits: u64, order: Listed) -> u64
+    ensures { result ≡ value (cut (placed order.entry.list.now (carried 54 bits)) 0 56) }
 {
     let first = bits << 10;
     let mut places: u64 = 0;
-    for t in 0..54 {
-        places = places * 2 + ((first << order[t]) >> 63);
+    for &j in order.list {
+        places = places * 2 + ((first << j) >> 63);
     }
     places * 4
 }
@@ -46,30 +46,17 @@ fn place_each(bits: u64, order: &[u8]) -> u64
 fn seven_bytes(bits: u64) -> [u8; 7]
     ensures { result ≡ cut (byte_of (carried 56 bits)) 0 7 }
 {
-    [
-        (bits / 0x1000000000000 % 256) as u8,
-        (bits / 0x10000000000 % 256) as u8,
-        (bits / 0x100000000 % 256) as u8,
-        (bits / 0x1000000 % 256) as u8,
-        (bits / 0x10000 % 256) as u8,
-        (bits / 0x100 % 256) as u8,
-        (bits % 256) as u8,
-    ]
+    let [_, a, b, c, d, e, f, g] = bits.to_be_bytes();
+    [a, b, c, d, e, f, g]
 }
 
-// The frame of the logical bits in the low 54 bits of a number, unless the list is no order. The default order is known by one
-// comparison, so that who lends it does not pay for the others.
+// The frame of the logical bits in the low 54 bits of a number, unless the list is no order.
 pub fn place_bits(bits: u64, order: &[u8]) -> Result<[u8; 7], Refusal>
     ensures { result ≡ placed_bits order.now (carried 54 bits) }
 {
-    if order.len() != 54 {
-        return Err(Refusal::InvalidOrder);
-    }
-    if is_default(order) {
-        return Ok(seven_bytes(scatter(bits)));
-    }
-    if each_once(order) {
-        return Ok(seven_bytes(place_each(bits, order)));
-    }
-    Err(Refusal::InvalidOrder)
+    let places = match tested(order)? {
+        Order::Default => scatter(bits),
+        Order::Other(order) => place_each(bits, order),
+    };
+    Ok(seven_bytes(places))
 }

@@ -1,31 +1,23 @@
 // The 54 logical bits of a frame in an order.
-ghost use Rattle.std.specs.Prelude.{◌≡◌, true, ◌*◌, ◌-◌, ◌^◌, ◌≤◌, ◌<◌, length};
+ghost use Rattle.std.specs.Prelude.{◌≡◌, ◌^◌, ◌<◌, MatchResult};
 ghost use Rattle.bits.specs.Bits.{value, cut, carried};
-ghost use Rattle.order.specs.Order.{is_order, default_order, place_of, bit_at};
+ghost use Rattle.order.specs.Order.{default_order, place_of, bit_at};
 ghost use Rattle.order.specs.Taking.{OneNamed, bits_answer};
+ghost use Rattle.order.specs.Tested.{numbers};
 
-use crate::list::{each_once, is_default};
+use crate::list::tested;
+use crate::tested::{Listed, Order};
 use refusal::Refusal;
-
-// Some of seven bytes as one number, most significant first.
-fn bytes_from(frame: &[u8], first: usize, end: usize) -> u64
-    requires { (length frame.now ≡ 7) × (first ≤ end) × (end ≤ 7) }
-    ensures { result ≡ value (cut (bit_at frame.now) (8 * first) (8 * (end - first))) }
-{
-    let mut number: u64 = 0;
-    for i in first..end {
-        number = number * 256 + frame[i] as u64;
-    }
-    number
-}
 
 // The 56 places of seven bytes as one number, place 0 the most significant bit. Four bytes, and two, are what a processor loads
 // at once.
-fn placed_bits(frame: &[u8]) -> u64
-    requires { length frame.now ≡ 7 }
+fn placed_bits(frame: &[u8; 7]) -> u64
     ensures { result ≡ value (cut (bit_at frame.now) 0 56) }
 {
-    (bytes_from(frame, 0, 4) * 65536 + bytes_from(frame, 4, 6)) * 256 + bytes_from(frame, 6, 7)
+    let [a, b, c, d, e, f, g] = *frame;
+    let four = u64::from(u32::from_be_bytes([a, b, c, d]));
+    let two = u64::from(u16::from_be_bytes([e, f]));
+    (four * 65536 + two) * 256 + u64::from(g)
 }
 
 // The 54 logical bits in the default order, from their places. Those that stand as far from where they go move together, by a shift and a mask.
@@ -59,60 +51,44 @@ fn bit_named(places: u64, j: u8) -> u64
 }
 
 // The 54 logical bits in any order: place after place, the bit there goes where the order names it.
-fn take_each(placed: u64, order: &[u8]) -> u64
-    requires { is_order order.now ≡ true }
-    ensures { result ≡ value (cut (λ j. carried 56 placed (place_of order.now j)) 0 54) }
+fn take_each(placed: u64, order: Listed) -> u64
+    ensures { result ≡ value (cut (λ j. carried 56 placed (place_of order.entry.list.now j)) 0 54) }
 {
     let mut bits: u64 = 0;
     let mut left = placed;
-    for t in 0..54 {
-        bits = bits | bit_named(left, order[t]);
-        left = left << 1;
+    for &j in order.list {
+        bits |= bit_named(left, j);
+        left <<= 1;
     }
     bits
 }
 
-// The logical bits of seven bytes in the default order, unless one of the last two bits is set.
-fn default_bits(frame: &[u8]) -> Result<u64, Refusal>
-    requires { length frame.now ≡ 7 }
-    ensures { result ≡ bits_answer default_order frame.now }
+// The logical bits of a frame in the low 54 bits of a number, bit 0 the most significant, with the order. Refused: what is not
+// seven bytes; a list that is no order; a frame with one of its last two bits set.
+pub(crate) fn taken<'a>(frame: &[u8], order: &'a [u8]) -> Result<(u64, Order<'a>), Refusal>
+    ensures { MatchResult result (λ p. (bits_answer order.now frame.now ≡ Ok p.0) × (numbers p.1 ≡ order.now)) (λ f. bits_answer order.now frame.now ≡ Err f) }
 {
+    let Some(frame) = frame.as_array::<7>() else {
+        return Err(Refusal::FrameLength);
+    };
+    let order = tested(order)?;
     if frame[6] % 4 != 0 {
         return Err(Refusal::PaddingBits);
     }
-    Ok(gather(placed_bits(frame)))
+    let placed = placed_bits(frame);
+    let bits = match order {
+        Order::Default => gather(placed),
+        Order::Other(order) => take_each(placed, order),
+    };
+    Ok((bits, order))
 }
 
-// The same in any order.
-fn ordered_bits(frame: &[u8], order: &[u8]) -> Result<u64, Refusal>
-    requires { (length frame.now ≡ 7) × (is_order order.now ≡ true) }
-    ensures { result ≡ bits_answer order.now frame.now }
-{
-    if frame[6] % 4 != 0 {
-        return Err(Refusal::PaddingBits);
-    }
-    Ok(take_each(placed_bits(frame), order))
-}
-
-// The logical bits of a frame in the low 54 bits of a number, bit 0 the most significant. Refused: what is not seven bytes; a
-// list that is no order; a frame with one of its last two bits set.
-// The default order is known by one comparison, so that who lends it does not pay for the others.
+// The logical bits of a frame in the low 54 bits of a number, bit 0 the most significant.
 pub fn logical_bits(frame: &[u8], order: &[u8]) -> Result<u64, Refusal>
     ensures { result ≡ bits_answer order.now frame.now }
 {
-    if frame.len() != 7 {
-        return Err(Refusal::FrameLength);
-    }
-    if order.len() != 54 {
-        return Err(Refusal::InvalidOrder);
-    }
-    if is_default(order) {
-        return default_bits(frame);
-    }
-    if each_once(order) {
-        return ordered_bits(frame, order);
-    }
-    Err(Refusal::InvalidOrder)
+    let (bits, _) = taken(frame, order)?;
+    Ok(bits)
 }
 
 // The bit of place 0: 2 to the 55th.

@@ -1,42 +1,30 @@
--- `order::place::place_bits` meets its contract: a list that is the default order is placed as that, any other order place by place. Assumes nothing.
-use mathlib.Core.Path.{sym, ap, ◌∙◌}
+-- `order::place::place_bits` meets its contract: the places are those of the order that the list is. Assumes nothing.
+use mathlib.Core.Path.{◌≡◌, sym, ap, ◌∙◌}
 use mathlib.Core.List.{List}
 use Prim.Native.Nat.{ℕ}
-use Rattle.bits.specs.Bits.{carried}
-use Rattle.bits.proofs.Tests.{T_true, true_T}
-use Rattle.order.specs.Order.{is_order, default_order}
-use Rattle.order.specs.Placing.{placed_bits}
-use Rattle.order.proofs.Orders.{length_none, default_is_order}
-use Rattle.order.proofs.Sameness.{same_equal}
+use Rattle.bits.specs.Bits.{value, cut, carried}
+use Rattle.std.proofs.lemmas.Result.{err_from_is_err_and}
+use Rattle.order.specs.Order.{placed}
+use Rattle.order.specs.Tested.{numbers}
+use Rattle.order.specs.declared.tested.Order.{Order}
 use Rattle.order.proofs.Placing.{none_owes, frame_owes}
 use Rattle.order.proofs.place.place_bits.Goals as goal
+use Rattle.order.proofs.place.place_bits.Goals.{in-Default, in-Other}
 
-pub returns-then-order-ne54 : goal.returns-then-order-ne54
-returns-then-order-ne54 c = let a = c.args in none_owes a.order.now (carried 54 a.bits) (length_none a.order.now c.if-order-ne54.true)
-
-pub returns-then-is_default : goal.returns-then-is_default
-returns-then-is_default c =
-    let told = c in
-    let a = told.args in
-    let g = carried 54 a.bits in
-    let same = same_equal a.order.now default_order (T_true _ (sym told.is_default.ensures ∙ c.if-is_default.true)) in
-    frame_owes default_order g (true_T (is_order default_order) default_is_order) c.seven_bytes.result c.scatter.result c.seven_bytes.ensures
-    c.scatter.ensures
-    ∙ ap (λ (o : List ℕ). placed_bits o g) (sym same)
-
-pub place_each-requires : goal.place_each-requires
-place_each-requires c = sym c.each_once.ensures ∙ c.if-each_once.true
-
-pub returns-then-each_once : goal.returns-then-each_once
-returns-then-each_once c =
-    let told = c in
-    let a = told.args in
-    let x = c.place_each in
-    frame_owes a.order.now (carried 54 a.bits) (sym told.each_once.ensures ∙ c.if-each_once.true) c.seven_bytes-then-each_once.result x.result
-    c.seven_bytes-then-each_once.ensures x.ensures
+pub returns-in_err-tested : goal.returns-in_err-tested
+returns-in_err-tested c =
+    let a = c.args in
+    let p = err_from_is_err_and c.from_residual.result c.from_residual.ensures.1 in
+    rw (p.1, p.2, c.in_err-tested.ensures.1) (none_owes a.order.now (carried 54 a.bits) c.in_err-tested.ensures.0)
 
 pub returns : goal.returns
 returns c =
-    let told = c in
-    let a = told.args in
-    none_owes a.order.now (carried 54 a.bits) (sym told.each_once.ensures ∙ c.if-each_once.false)
+    let a = c.args in
+    let e = c.in_ok-tested.ensures in
+    let places : c.match-branch-2.places ≡ value (cut (placed (numbers c.in_ok-tested.field-0) (carried 54 a.bits)) 0 56) =
+    elim c.match-branch-2.branch [
+      | in-Default s ↦ s.places-is ∙ s.scatter-places.ensures ∙ ap (λ (o : Order). value (cut (placed (numbers o) (carried 54 a.bits)) 0 56)) (sym s.in-Default.is)
+      | in-Other s ↦ s.places-is ∙ s.place_each-places.ensures ∙ ap (λ (o : Order). value (cut (placed (numbers o) (carried 54 a.bits)) 0 56)) (sym s.in-Other.is)
+    ] in
+    frame_owes a.order.now (carried 54 a.bits) e.1 c.seven_bytes.result c.match-branch-2.places c.seven_bytes.ensures
+    (places ∙ ap (λ (l : List ℕ). value (cut (placed l (carried 54 a.bits)) 0 56)) e.0)
