@@ -3,10 +3,18 @@
 use mathlib.Core.Path.{◌≡◌, refl, sym, ap, ◌∙◌}
 use mathlib.Core.List.{List}
 use Prim.Native.Nat.{ℕ, zero, suc}
-use lib.ListN.{length, set, length-set}
+use lib.ListN.{length, set, replicate, length-set}
 use Rattle.order.specs.Order.{place_of, order_by, default_order}
 use Rattle.order.specs.Carrying.{carried_place}
-use Rattle.order.specs.Listing.{named}
+
+-- the entries with the first n logical bits named, each at the place that is carried to it, and 0 at every other place
+unfoldable pub named : ℕ → List ℕ
+named zero = replicate 54 0
+named (suc n) = set (named n) (carried_place n) n
+
+-- naming under way: n logical bits are named, and the place is the one carried to the next
+abbrev pub NamedTo : ℕ → ℕ → List ℕ → Type 0
+NamedTo n place entries = (place ≡ carried_place n) × (entries ≡ named n)
 
 -- 54 entries
 pub named_length : (n : ℕ) → length (named n) ≡ 54

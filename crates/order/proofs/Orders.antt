@@ -48,11 +48,7 @@ module _ (ord : List ℕ) where
       go true only = absurd (none (only tt))
       go false only = refl
 
-  -- as one of another length
-  pub length_none : (length ord ≡ 54 → ⊥) → is_order ord ≡ false
-  length_none d = no_order (λ o. d o.size)
-
-  -- and one with an entry that is no logical number
+  -- as one with an entry that is no logical number
   pub entry_none : (t : ℕ) → t < 54 → (get_or ord t 0 < 54 → ⊥) → is_order ord ≡ false
   entry_none t h big = no_order (λ o. big (entry_lt ord o t h))
 

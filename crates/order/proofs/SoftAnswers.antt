@@ -23,7 +23,7 @@ use Rattle.order.proofs.Answers.{bits_taken, bits_refused}
 
 module _ (ord bytes : List ℕ) where
   -- they are taken only in an order
-  pub taken_order : (n : ℕ) → bits_answer ord bytes ≡ Ok n → is_order ord ≡ true
+  taken_order : (n : ℕ) → bits_answer ord bytes ≡ Ok n → is_order ord ≡ true
   taken_order n e = true_T (is_order ord) (is_order_lem ord (frame_taken_only ord bytes (bits_taken ord bytes n e).0).order)
 
   module _ (confidences : List ℕ) where

@@ -10,9 +10,14 @@ use lib.Seq.{get_or-set_same, get_or-set_other}
 use Rattle.bits.specs.Bits.{cut}
 use Rattle.bits.proofs.Cut.{cut_get_or, cut_ext}
 use Rattle.order.specs.Order.{Order, place_of, default_order}
-use Rattle.order.specs.SoftTaking.{confidence_of, KnownTo, PlaceConfidences}
+use Rattle.order.specs.SoftTaking.{confidence_of, PlaceConfidences}
 use Rattle.order.proofs.DefaultOrder.{default_place}
 use Rattle.order.proofs.Places.{entry_lt, entry_back, place_lt, place_back}
+
+-- a list of 54 of which the first n entries are those of a sequence
+pub record KnownTo (q : ℕ → ℕ) (n : ℕ) (found : List ℕ) : Type 0 where
+  pub size : length found ≡ 54
+  pub known : (j : ℕ) → j < n → get_or found j 0 ≡ q j
 
 -- the place that an order gives a bit is the one at which it names it
 pub place_confidences : PlaceConfidences

@@ -27,8 +27,3 @@ soft_bits ord bytes confidences = unless (first_refusal (frame_table ord bytes +
 -- what is claimed of confidences: in any order, the bit that stands at a place has the confidence of that place
 abbrev pub PlaceConfidences : Type 0
 PlaceConfidences = (ord : List ℕ) → Order ord → (confidences : List ℕ) (t : ℕ) → t < 54 → confidence_of ord confidences (get_or ord t 0) ≡ get_or confidences t 0
-
--- helper of the code: a list of 54 of which the first n entries are those of a sequence
-pub record KnownTo (q : ℕ → ℕ) (n : ℕ) (found : List ℕ) : Type 0 where
-  pub size : length found ≡ 54
-  pub known : (j : ℕ) → j < n → get_or found j 0 ≡ q j

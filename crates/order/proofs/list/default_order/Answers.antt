@@ -3,9 +3,8 @@ use mathlib.Core.Path.{◌≡◌, refl, ap, ◌∙◌}
 use Prim.Native.Nat.{ℕ, suc, ◌+◌, ◌*◌}
 use native.Mathlib.Omega.{arith}
 use Rattle.order.specs.Carrying.{carried_place}
-use Rattle.order.specs.Listing.{named}
 use Rattle.order.proofs.Carrying.{carried_more, carried_lt}
-use Rattle.order.proofs.Naming.{named_more, named_all}
+use Rattle.order.proofs.Naming.{named, named_more, named_all}
 use Rattle.order.proofs.list.default_order.Goals as goal
 
 pub loop-nine-init : goal.loop-nine-init

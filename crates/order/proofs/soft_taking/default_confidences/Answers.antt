@@ -3,8 +3,8 @@ use mathlib.Core.Path.{◌≡◌, subst}
 use Prim.Native.Nat.{ℕ, ◌+◌, ◌*◌}
 use native.Mathlib.Omega.{arith}
 use Rattle.order.specs.Order.{default_order}
-use Rattle.order.specs.SoftTaking.{confidence_of, KnownTo}
-use Rattle.order.proofs.SoftTaking.{default_confidence, known_more, known_all}
+use Rattle.order.specs.SoftTaking.{confidence_of}
+use Rattle.order.proofs.SoftTaking.{KnownTo, default_confidence, known_more, known_all}
 use Rattle.order.proofs.soft_taking.default_confidences.Goals as goal
 
 pub loop-i-preserved : goal.loop-i-preserved
