@@ -1,26 +1,44 @@
 -- Digits one by one: what a reader has seen so far and what is still to come. Assumes nothing.
-use mathlib.Core.Path.{◌≡◌, refl}
-use mathlib.Core.Bool.{Bool, true, false, not, ◌&&◌, and-eq-true_iff}
+use mathlib.Core.Path.{◌≡◌, refl, ap}
+use mathlib.Core.Bool.{Bool, true, false, not, ◌&&◌, and-eq-true_iff, and-true}
 use mathlib.Core.List.{List, [], ◌∷◌}
 use Prim.Native.Nat.{ℕ, zero, suc, ◌+◌, ◌-◌, ◌*◌, ◌^◌, ◌≤◌, ◌<◌}
 use native.Mathlib.Nat.{not-suc-le-zero, le_of_suc-le-suc, pow-suc, pow-le-pow_right}
 use native.Mathlib.Numerals.{add-one}
 use native.Mathlib.Omega.{arith}
 use lib.Dec.{leb, eqb}
-use lib.ListN.{length, get_or, drop, drop_of_length-le}
+use lib.ListN.{length, get_or, take, drop, drop_of_length-le}
 use lib.Seq.{drop-cons}
 use borrow.Author.Tests.{leb-true}
+use Rattle.std.proofs.lemmas.Bool.Decides.{nat_tests}
+use Rattle.std.specs.Prelude.{nat_eq}
+use Rattle.std.specs.List.{list_all}
+use Rattle.std.specs.Cmp.Lexicographic.{pointwise}
 use Rattle.codebook_text.specs.Text.{is_negative, unsigned, is_digit, all_digits, is_digits, value_after, digits_value, is_number}
 
 -- both of two tests
 pub both : (a b : Bool) → a && b ≡ true → (a ≡ true) × (b ≡ true)
 both a b = (and-eq-true_iff a b).0
 
--- a line with a minus is not empty
-pub negative_some : (line : List ℕ) → is_negative line ≡ true → 1 ≤ length line
+-- a line starts with a minus where its first byte is one
+pub minus_first : (line : List ℕ) → pointwise nat_eq (45 ∷ []) (take 1 line) ≡ is_negative line
 unfolding is_negative
-negative_some [] e = let z : ◌≡◌ {A = ℕ} 0 1 = cc in absurd (omega arith)
-negative_some (c ∷ cs) e = omega arith
+minus_first [] = refl
+minus_first (c ∷ cs) = grind (arith, nat_tests)
+
+pub first_minus : (line : List ℕ) → pointwise nat_eq (take 1 line) (45 ∷ []) ≡ is_negative line
+unfolding is_negative
+first_minus [] = refl
+first_minus (c ∷ cs) = and-true (eqb c 45)
+
+-- what follows it
+pub past_minus : (line : List ℕ) → is_negative line ≡ true → drop 1 line ≡ unsigned line
+unfolding unsigned
+past_minus line e = rw e refl
+
+pub no_minus : (line : List ℕ) → is_negative line ≡ false → line ≡ unsigned line
+unfolding unsigned
+no_minus line e = rw e refl
 
 -- what the length and the bytes of one to ten digits are
 pub digits_parts : (cs : List ℕ) → is_digits cs ≡ true → (1 ≤ length cs) × (length cs ≤ 10) × (all_digits cs ≡ true)
@@ -39,21 +57,17 @@ digit_at (c ∷ cs) zero e h =
     (leb-true 48 c p.0, leb-true c 57 p.1)
 digit_at (c ∷ cs) (suc i) e h = digit_at cs i (both (is_digit c) (all_digits cs) e).1 (le_of_suc-le-suc h)
 
-module _ (cs : List ℕ) (i : ℕ) (h : i < length cs) where
-  -- a test of the bytes from i on is a test of the one at i and of those after it
-  pub digits_more : all_digits (drop i cs) ≡ is_digit (get_or cs i 0) && all_digits (drop (i + 1) cs)
-  unfolding all_digits
-  digits_more = rw (add-one, drop-cons cs i 0 h) refl
+-- a test of all is std's own
+pub all_digits_is : (cs : List ℕ) → list_all is_digit cs ≡ all_digits cs
+unfolding all_digits
+all_digits_is [] = refl
+all_digits_is (c ∷ cs) = ap (λ (b : Bool). is_digit c && b) (all_digits_is cs)
 
+module _ (cs : List ℕ) (i : ℕ) (h : i < length cs) where
   -- one digit more
   pub value_more : (v : ℕ) → value_after v (drop i cs) ≡ value_after (10 * v + (get_or cs i 0 - 48)) (drop (i + 1) cs)
   unfolding value_after
   value_more v = rw (add-one, drop-cons cs i 0 h) refl
-
--- where no byte is left, nothing but digits is left
-pub digits_out : (cs : List ℕ) (i : ℕ) → length cs ≤ i → all_digits (drop i cs) ≡ true
-unfolding all_digits
-digits_out cs i h = rw (drop_of_length-le cs h) refl
 
 -- with no digit left the value stands
 pub value_out : (cs : List ℕ) (i v : ℕ) → length cs ≤ i → value_after v (drop i cs) ≡ v

@@ -1,15 +1,15 @@
 -- The first line of a text and what follows it, by its length and by the place where it starts. Assumes nothing.
 use mathlib.Core.Path.{◌≡◌, refl, sym, ap, ◌∙◌}
-use mathlib.Core.Bool.{Bool, true, false, ◌||◌, cond}
+use mathlib.Core.Bool.{Bool, true, false, not, ◌||◌, cond}
 use mathlib.Core.List.{List, [], ◌∷◌}
-use Prim.Native.Nat.{ℕ, suc, ◌+◌, ◌-◌, ◌≤◌, ◌<◌}
-use native.Mathlib.Nat.{add-sub_cancel_left}
+use Prim.Native.Nat.{ℕ, suc, ◌+◌, ◌≤◌}
 use native.Mathlib.Numerals.{add-one}
 use native.Mathlib.Omega.{arith}
 use lib.Dec.{eqb, ltb, leb-suc-suc}
-use lib.ListN.{length, get_or, take, drop, length-drop, drop_of_length-le}
-use lib.Seq.{drop-cons, drop-drop}
-use borrow.Author.Tests.{ne_eqb, lt-ltb, le-ltb, ltb-true, ltb-false}
+use lib.ListN.{length, take, drop}
+use borrow.Author.Tests.{lt-ltb}
+use Rattle.std.specs.Prelude.{Option, None, Some}
+use Rattle.std.specs.List.{position_or_len}
 use Rattle.codebook_text.specs.Text.{line_of, is_ended, after_line}
 
 -- a line is no longer than the text
@@ -55,37 +55,35 @@ line_ended (c ∷ cs) = go (eqb c 10) (line_ended cs)
     go true h = sym (lt-ltb 0 (suc (length cs)) (omega arith))
     go false h = h ∙ sym (leb-suc-suc (suc (length (line_of cs))) (length cs))
 
--- past the end of a text the line is empty
-pub line_out : (text : List ℕ) (i : ℕ) → length text ≤ i → length (line_of (drop i text)) ≡ 0
+-- the first line end is where the line's length says
+pub line_end : (t : List ℕ) → position_or_len (λ (c : ℕ). eqb c 10) t ≡ length (line_of t)
 unfolding line_of
-line_out text i h = rw (drop_of_length-le text h) refl
+line_end [] = refl
+line_end (c ∷ cs) = go (eqb c 10) (line_end cs)
+  where
+    go : (b : Bool) → position_or_len (λ (c : ℕ). eqb c 10) cs ≡ length (line_of cs)
+        → cond (not b) (1 + position_or_len (λ (c : ℕ). eqb c 10) cs) 0 ≡ length (cond b [] (c ∷ line_of cs))
+    go true h = refl
+    go false h = omega (arith, h)
 
-module _ (text : List ℕ) (i : ℕ) (h : i < length text) where
-  -- at a line end the line is empty
-  pub line_stop : get_or text i 0 ≡ 10 → length (line_of (drop i text)) ≡ 0
-  unfolding line_of
-  line_stop e = rw (drop-cons text i 0 h, e) refl
+-- what is found of it: where there is none no line is ended, and else the line and what follows it stand before and past it
+pub record Found (t : List ℕ) (e : ℕ) : Type 0 where
+  pub ended : is_ended t ≡ true
+  pub line : take e t ≡ line_of t
+  pub rest : drop (e + 1) t ≡ after_line t
 
-  -- any other byte belongs to the line
-  pub line_more : (get_or text i 0 ≡ 10 → ⊥) → length (line_of (drop i text)) ≡ length (line_of (drop (i + 1) text)) + 1
-  unfolding line_of
-  line_more ne = rw (add-one, add-one, drop-cons text i 0 h, ne_eqb (get_or text i 0) 10 ne) refl
+pub unended : (t : List ℕ) (r : Option ℕ) → r ≡ cond (ltb (length (line_of t)) (length t)) (Some (length (line_of t))) None → r ≡ None → is_ended t ≡ false
+unended t r e n = line_ended t ∙ go (ltb (length (line_of t)) (length t)) (sym n ∙ e)
+  where
+    go : (b : Bool) → None ≡ cond b (Some (length (line_of t))) None → b ≡ false
+    go true h = cc
+    go false h = refl
 
-module _ (text : List ℕ) (at e : ℕ) (end : e ≡ at + length (line_of (drop at text))) where
-  -- the bytes from the start of a line to its end are the line
-  pub part_line : take (e - at) (drop at text) ≡ line_of (drop at text)
-  part_line = rw (end, add-sub_cancel_left) (line_front (drop at text))
-
-  -- the next line starts one past the end
-  pub part_rest : drop (e + 1) text ≡ after_line (drop at text)
-  part_rest =
-      let next : e + 1 ≡ at + suc (length (line_of (drop at text))) = omega arith in
-      rw (line_rest, drop-drop) (ap (λ (k : ℕ). drop k text) next)
-
-  -- the line is ended where its end is not the end of the text
-  pub part_ended : at ≤ length text → is_ended (drop at text) ≡ ltb e (length text)
-  part_ended h = line_ended (drop at text) ∙ go (ltb e (length text)) refl
-    where
-      go : (b : Bool) → ltb e (length text) ≡ b → ltb (length (line_of (drop at text))) (length (drop at text)) ≡ b
-      go true f = lt-ltb (length (line_of (drop at text))) _ (omega (arith, ltb-true e (length text) f, length-drop at text))
-      go false f = le-ltb (length (line_of (drop at text))) _ (omega (arith, ltb-false e (length text) f, length-drop at text))
+pub found : (t : List ℕ) (r : Option ℕ) (k : ℕ) → r ≡ cond (ltb (length (line_of t)) (length t)) (Some (length (line_of t))) None → r ≡ Some k → Found t k
+found t r k e n =
+    let p = go (ltb (length (line_of t)) (length t)) (sym n ∙ e) in
+    record { ended = line_ended t ∙ p.0; line = rw p.1 (line_front t); rest = rw (add-one, p.1) (sym (line_rest t)) }
+  where
+    go : (b : Bool) → Some k ≡ cond b (Some (length (line_of t))) None → (b ≡ true) × (k ≡ length (line_of t))
+    go true h = (refl, cc)
+    go false h = cc

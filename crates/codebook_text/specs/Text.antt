@@ -1,11 +1,11 @@
 -- The text form of a codebook (document 01, "LSF and magnitude values"): what a reader takes, and what a call answers and leaves. The form is
 -- document 01's; the numbers are those of MIL-STD-3005, tables IV to VII (5.3.4) or table VIII (5.3.5).
 -- Bytes are numbers; 10 ends a line, 45 is the minus, 48 to 57 are the digits.
-use Rattle.std.specs.Prelude.{ℕ, zero, suc, ◌+◌, ◌-◌, ◌*◌, ◌≡◌, Bool, true, false, not, ◌&&◌, ◌||◌, cond, List, [], ◌∷◌, leb, eqb, length, drop, ℤ, pos, neg_ℤ}
+use Rattle.std.specs.Prelude.{ℕ, zero, suc, ◌+◌, ◌-◌, ◌*◌, ◌≡◌, Bool, true, false, not, ◌&&◌, ◌||◌, cond, List, [], ◌∷◌, leb, eqb, length, drop, ℤ, pos, neg_ℤ, Option, Result}
 use Rattle.bits.specs.Lists.{written_unless}
-use Rattle.refusal.specs.Refusals.{Table, first_refusal}
-use Rattle.codebook_text.specs.declared.TextAnswer.{TextAnswer}
-use Rattle.codebook_text.specs.declared.TextAnswer.TheVariants.{Filled, Refused}
+use Rattle.refusal.specs.Refusals.{Table, first_refusal, unless}
+use Rattle.refusal.specs.declared.Refusal.{Refusal}
+use Rattle.refusal.specs.declared.Refusal.TheVariants.{InvalidCodebook}
 
 -- the bytes before the first line end, all where there is none
 unfoldable pub line_of : List ℕ → List ℕ
@@ -87,20 +87,15 @@ Reads n text vs = (is_lines n text ≡ true) × (numbers n text ≡ vs)
 
 -- what refuses a text for a codebook of that size ("Refusals by place"): 6, a buffer of another size; 6, a text that is not as many good lines
 abbrev pub text_table : ℕ → List ℕ → ℕ → Table
-text_table size text room = (not (eqb room size), 6) ∷ (not (is_lines size text), 6) ∷ []
+text_table size text room = (not (eqb room size), InvalidCodebook) ∷ (not (is_lines size text), InvalidCodebook) ∷ []
 
--- the refusal, 0 is none
-unfoldable pub text_refusal : ℕ → List ℕ → ℕ → ℕ
+-- the refusal
+unfoldable pub text_refusal : ℕ → List ℕ → ℕ → Option Refusal
 text_refusal size text room = first_refusal (text_table size text room)
 
--- the answer by the refusal, 0 for none
-abbrev pub filled_unless : ℕ → TextAnswer
-filled_unless zero = Filled
-filled_unless (suc n) = Refused (suc n)
-
 -- the answer to a call with a buffer of `room` numbers
-unfoldable pub text_answer : ℕ → List ℕ → ℕ → TextAnswer
-text_answer size text room = filled_unless (text_refusal size text room)
+unfoldable pub text_answer : ℕ → List ℕ → ℕ → Result Unit Refusal
+text_answer size text room = unless (text_refusal size text room) tt
 
 -- the buffer afterwards: the numbers of the text, and after a refusal all it held
 unfoldable pub text_writes : ℕ → List ℕ → List ℤ → List ℤ

@@ -1,6 +1,6 @@
 // A line of a codebook's text, without its end: a sign and digits.
 ghost use Rattle.std.specs.Prelude.{◌≡◌, true, ◌<◌};
-ghost use Rattle.codebook_text.specs.Text.{is_negative, unsigned, is_digit, all_digits, is_digits, digits_value, is_number, number_of};
+ghost use Rattle.codebook_text.specs.Text.{is_negative, unsigned, all_digits, is_digits, digits_value, is_number, number_of};
 
 // Whether a line, without its end, is good. Its value is asked for only after a minus.
 pub(crate) fn is_number(line: &[u8]) -> bool
@@ -29,17 +29,14 @@ pub(crate) fn number(line: &[u8]) -> i64
 fn is_negative(line: &[u8]) -> bool
     ensures { result ≡ is_negative line.now }
 {
-    if line.len() == 0 {
-        return false;
-    }
-    line[0] == b'-'
+    line.starts_with(b"-")
 }
 
 // What follows the minus, all where there is none.
 fn unsigned_part(line: &[u8]) -> &[u8]
     ensures { result.now ≡ unsigned line.now }
 {
-    if is_negative(line) { &line[1..] } else { line }
+    line.strip_prefix(b"-").unwrap_or(line)
 }
 
 // One to ten digits and nothing else.
@@ -53,30 +50,19 @@ fn is_digits(digits: &[u8]) -> bool
 fn all_digits(digits: &[u8]) -> bool
     ensures { result ≡ all_digits digits.now }
 {
-    for i in 0..digits.len() {
-        if !is_digit(digits[i]) {
-            return false;
-        }
-    }
-    true
+    digits.iter().all(u8::is_ascii_digit)
 }
 
-// One digit.
-fn is_digit(c: u8) -> bool
-    ensures { result ≡ is_digit c }
-{
-    (b'0' <= c) & (c <= b'9')
-}
-
-// The value of one to ten digits, the most significant first.
+// The value of one to ten digits, the most significant first. A loop: the closure of a `fold` would owe at each
+// value that its step fits.
 fn digits_value(digits: &[u8]) -> u64
     requires { is_digits digits.now ≡ true }
     ensures equal { result ≡ digits_value digits.now }
     ensures bound { result < 10000000000 }
 {
-    let mut value: u64 = 0;
-    for i in 0..digits.len() {
-        value = 10 * value + (digits[i] - b'0') as u64;
+    let mut value = 0;
+    for &digit in digits {
+        value = 10 * value + u64::from(digit - b'0');
     }
     value
 }

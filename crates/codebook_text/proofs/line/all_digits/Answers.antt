@@ -1,31 +1,14 @@
--- `codebook_text::line::all_digits` meets its contract: the bytes passed are digits, so the test goes by those to come. Assumes nothing.
-use mathlib.Core.Path.{◌≡◌, sym, ap, ◌∙◌}
-use mathlib.Core.Bool.{Bool, true, false, ◌&&◌}
-use Prim.Native.Nat.{◌+◌, ◌<◌}
-use native.Mathlib.Omega.{arith}
-use lib.ListN.{length, drop, get_or}
-use Rattle.codebook_text.specs.Text.{all_digits, is_digit}
-use Rattle.codebook_text.proofs.Digits.{digits_more, digits_out}
+-- `codebook_text::line::all_digits` meets its contract: it tests the bytes one after the other. Assumes nothing.
+use mathlib.Core.Path.{◌∙◌}
+use borrow.Author.Tests.{tests}
+use Rattle.std.proofs.Common.{rules}
+use Rattle.std.proofs.lemmas.Iterator.{YieldsList-from_slice}
+use Rattle.std.proofs.lemmas.Iterator.Search.{all_from_yields_List}
+use Rattle.codebook_text.specs.Text.{is_digit}
+use Rattle.codebook_text.proofs.Digits.{all_digits_is}
 use Rattle.codebook_text.proofs.line.all_digits.Goals as goal
 
 pub returns : goal.returns
 returns c =
-    let L = c.loop-i in
     let s = c.args.digits.now in
-    sym (L.invariant.2 ∙ digits_out s L.i (omega arith))
-
-pub returns-then-not-is_digit : goal.returns-then-not-is_digit
-returns-then-not-is_digit c =
-    let L = c.loop-i in
-    let s = c.args.digits.now in
-    let h : L.i < length s = omega arith in
-    let f : is_digit (get_or s L.i 0) ≡ false = sym c.is_digit.ensures ∙ c.if-not-is_digit.true in
-    sym (L.invariant.2 ∙ digits_more s L.i h ∙ ap (λ (b : Bool). b && all_digits (drop (L.i + 1) s)) f)
-
-pub loop-i-preserved : goal.loop-i-preserved
-loop-i-preserved c =
-    let L = c.loop-i in
-    let s = c.args.digits.now in
-    let h : L.i < length s = omega arith in
-    let f : is_digit (get_or s L.i 0) ≡ true = sym c.is_digit.ensures ∙ c.if-not-is_digit.false in
-    (omega arith, omega arith, L.invariant.2 ∙ digits_more s L.i h ∙ ap (λ (b : Bool). b && all_digits (drop (L.i + 1) s)) f)
+    all_from_yields_List is_digit _ _ _ c.all.ensures.ran (YieldsList-from_slice s cc) (λ x b q k. search (rules, tests)) ∙ all_digits_is s

@@ -26,7 +26,7 @@ returns-then-is_lines c =
     let r = numbers_owe s.size s.text.now s.codebook.now x.if-codebook-size.false (good (goal.at.returns-then-is_lines x).Then-is_lines) in
     record { answer = r.0; written = c.fill.ensures ∙ r.1 }
 
-pub returns : goal.returns
-returns c =
+pub returns-else-is_lines : goal.returns-else-is_lines
+returns-else-is_lines c =
     let s = c.args in
     let p = lines_owe s.size s.text.now s.codebook.now (sym c.is_lines.ensures ∙ c.if-is_lines.false) in record { answer = p.0; written = p.1 }

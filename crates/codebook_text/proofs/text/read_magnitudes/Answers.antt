@@ -1,5 +1,0 @@
--- `codebook_text::text::read_magnitudes` meets its contract: it is `read` at the size of a codebook of magnitudes. Assumes nothing.
-use Rattle.codebook_text.proofs.text.read_magnitudes.Goals as goal
-
-pub returns : goal.returns
-returns c = record { answer = c.read.ensures.answer; written = c.read.ensures.written }
