@@ -19,8 +19,8 @@ use Rattle.reading.specs.Reading.{read}
 use Rattle.reading.specs.declared.Accepted.{Accepted}
 use Rattle.reading.proofs.Extent.{read_ext}
 use Rattle.receiver.specs.Steps.{step_unless}
-use Rattle.receiver.specs.Receiving.{record_table, receive_refusal, receive_unless, receive}
-use Rattle.receiver.proofs.Refusals.{passes, frame_refused}
+use Rattle.receiver.specs.Receiving.{record_table, receive}
+use Rattle.receiver.proofs.Refusals.{passes, frame_refused, receive_by}
 use Rattle.records.specs.declared.Record.{Record}
 
 -- the last bit of a number is its remainder
@@ -35,14 +35,9 @@ module _ (ord bytes : List ℕ) where
   taken_bit n j e h = carried_back 54 (logical_bit ord bytes) n j e h
 
 module _ (ord : List ℕ) (r : Record) (bytes : List ℕ) where
-  -- what a call owes by its refusal
-  owes : (n : Option Refusal) → receive_refusal ord r bytes ≡ n → receive_unless n ord r bytes ≡ receive ord r bytes
-  unfolding receive
-  owes n e = ap (λ (m : Option Refusal). receive_unless m ord r bytes) (sym e)
-
   -- a frame that is refused
   pub frame_owes : (f : Refusal) → bits_answer ord bytes ≡ Err f → record { answer = Err f; next = r } ≡ receive ord r bytes
-  frame_owes f e = owes (Some f) (frame_refused ord r bytes f (bits_refused ord bytes f e))
+  frame_owes f e = sym (receive_by ord r bytes (Some f) (frame_refused ord r bytes f (bits_refused ord bytes f e)))
 
   -- one that is taken: a step, unless the record is refused
   pub bits_owe : (n : ℕ) → bits_answer ord bytes ≡ Ok n
@@ -52,4 +47,4 @@ module _ (ord : List ℕ) (r : Record) (bytes : List ℕ) where
       let same : (j : ℕ) → j < 54 → carried 54 n j ≡ logical_bit ord bytes j = λ j h. taken_bit ord bytes n j t.1 h in
       ap₂ (λ (s : Bool) (x : Option Accepted). step_unless (first_refusal (record_table r)) r s x) (sync_is n ∙ same 53 (lit< tt))
       (read_ext (carried 54 n) (logical_bit ord bytes) (λ j h. same j (omega arith)))
-      ∙ owes (first_refusal (record_table r)) (passes (frame_table ord bytes) (record_table r) t.0)
+      ∙ sym (receive_by ord r bytes (first_refusal (record_table r)) (passes (frame_table ord bytes) (record_table r) t.0))

@@ -17,6 +17,7 @@ use Rattle.records.specs.Records.{valid}
 use Rattle.receiver.specs.Steps.{step}
 use Rattle.receiver.specs.Receiving.{record_table, receive_refusal, receive_unless, receive}
 use Rattle.records.specs.declared.Record.{Record}
+use Rattle.receiver.specs.declared.Received.{Received}
 
 -- where the first of two tables refuses nothing, the second decides
 pub passes : (rows others : Table) → first_refusal rows ≡ None → first_refusal (rows ++ others) ≡ first_refusal others
@@ -58,12 +59,19 @@ module _ (ord : List ℕ) (r : Record) (bytes : List ℕ) where
       let f = append_none (frame_table ord bytes) (record_table r) e in
       (f, record_taken_only r (sym (passes (frame_table ord bytes) (record_table r) f) ∙ e))
 
+  -- the definition. No other law opens it, so that a wrong one is refused here, and soon
+  pub receive_is : receive ord r bytes ≡ receive_unless (receive_refusal ord r bytes) ord r bytes
+  unfolding receive
+  receive_is = refl
+
+  -- what a call gives by its refusal
+  pub receive_by : (n : Option Refusal) → receive_refusal ord r bytes ≡ n → receive ord r bytes ≡ receive_unless n ord r bytes
+  receive_by n e = receive_is ∙ ap (λ (m : Option Refusal). receive_unless m ord r bytes) e
+
   -- a call that is not refused takes one step by what the bits are read as
   pub receive_taken : receive_refusal ord r bytes ≡ None → receive ord r bytes ≡ step r (logical_bit ord bytes 53) (read (logical_bit ord bytes))
-  unfolding receive
-  receive_taken e = ap (λ (n : Option Refusal). receive_unless n ord r bytes) e
+  receive_taken e = receive_by None e
 
   -- a refused call leaves the record
   pub receive_refused : (f : Refusal) → receive_refusal ord r bytes ≡ Some f → (receive ord r bytes).next ≡ r
-  unfolding receive
-  receive_refused f e = ap (λ (n : Option Refusal). (receive_unless n ord r bytes).next) e
+  receive_refused f e = ap (λ (x : Received). x.next) (receive_by (Some f) e)

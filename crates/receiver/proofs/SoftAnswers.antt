@@ -22,9 +22,9 @@ use Rattle.reading.proofs.SoftExtent.{soft_ext}
 use Rattle.records.specs.declared.Record.{Record}
 use Rattle.receiver.specs.Steps.{step_unless}
 use Rattle.receiver.specs.Receiving.{record_table}
-use Rattle.receiver.specs.SoftReceiving.{soft_refusal, soft_unless, soft_receive}
+use Rattle.receiver.specs.SoftReceiving.{soft_receive}
 use Rattle.receiver.proofs.Answers.{sync_is, taken_bit}
-use Rattle.receiver.proofs.SoftRefusals.{taken_refusal, taking_refused, taking_passes}
+use Rattle.receiver.proofs.SoftRefusals.{taken_refusal, taking_refused, taking_passes, soft_by}
 
 module _ (ord : List ℕ) (r : Record) (bytes confidences : List ℕ) where
   -- what was taken is the frame's bits and their confidences, where neither is refused
@@ -47,15 +47,9 @@ module _ (ord : List ℕ) (r : Record) (bytes confidences : List ℕ) where
       go None f e = cc
       go (Some g) f e = cc
 
-  -- what a call owes by its refusal
-  owes : (n : Option Refusal) → soft_refusal ord r bytes confidences ≡ n
-      → soft_unless n r (logical_bit ord bytes) (confidence_of ord confidences) ≡ soft_receive ord r bytes confidences
-  unfolding soft_receive
-  owes n e = ap (λ (m : Option Refusal). soft_unless m r (logical_bit ord bytes) (confidence_of ord confidences)) (sym e)
-
   -- a frame or confidences that are refused
   pub taking_owes : (f : Refusal) → soft_bits ord bytes confidences ≡ Err f → record { answer = Err f; next = r } ≡ soft_receive ord r bytes confidences
-  taking_owes f e = owes (Some f) (taking_refused ord r bytes confidences f (soft_refused_is f e))
+  taking_owes f e = sym (soft_by ord r bytes confidences (Some f) (taking_refused ord r bytes confidences f (soft_refused_is f e)))
 
   -- both taken: a step, unless the record is refused
   pub bits_owe : (x : SoftBits) → soft_bits ord bytes confidences ≡ Ok x
@@ -67,4 +61,4 @@ module _ (ord : List ℕ) (r : Record) (bytes confidences : List ℕ) where
       λ j h. ap (λ (y : SoftBits). get_or y.confidences j 0) t.1 ∙ cut_at 0 (confidence_of ord confidences) 0 54 j (omega arith) ∙ ap (confidence_of ord confidences) (zero-add j) in
       ap₂ (λ (s : Bool) (y : Option Accepted). step_unless (first_refusal (record_table r)) r s y) (sync_is x.bits ∙ same 53 (lit< tt))
       (soft_ext (carried 54 x.bits) (logical_bit ord bytes) (λ j h. same j (omega arith)) (λ j. get_or x.confidences j 0) (confidence_of ord confidences) confident)
-      ∙ owes (first_refusal (record_table r)) (taking_passes ord r bytes confidences t.0)
+      ∙ sym (soft_by ord r bytes confidences (first_refusal (record_table r)) (taking_passes ord r bytes confidences t.0))

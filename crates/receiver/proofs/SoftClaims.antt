@@ -19,11 +19,11 @@ use Rattle.reading.specs.SoftClaims.{SpareShown, AllEqual}
 use Rattle.reading.proofs.SoftClaims.{soft_claims}
 use Rattle.records.specs.declared.Record.{Record}
 use Rattle.receiver.specs.Steps.{step, step_unless}
-use Rattle.receiver.specs.Receiving.{record_table, receive_refusal, receive_unless, receive}
-use Rattle.receiver.specs.SoftReceiving.{soft_refusal, soft_unless, soft_receive}
+use Rattle.receiver.specs.Receiving.{record_table, receive_refusal, receive}
+use Rattle.receiver.specs.SoftReceiving.{soft_refusal, soft_receive}
 use Rattle.receiver.specs.SoftClaims.{SoftClaims}
-use Rattle.receiver.proofs.Refusals.{not_refused_only, receive_taken}
-use Rattle.receiver.proofs.SoftRefusals.{soft_taken}
+use Rattle.receiver.proofs.Refusals.{not_refused_only, receive_is, receive_by, receive_taken}
+use Rattle.receiver.proofs.SoftRefusals.{soft_by, soft_taken}
 
 -- 54 confidences refuse nothing that is not refused without them
 soft_refusal_is : (ord : List ℕ) (r : Record) (bytes confidences : List ℕ) → length confidences ≡ 54 → soft_refusal ord r bytes confidences ≡ receive_refusal ord r bytes
@@ -38,10 +38,10 @@ module _ (ord : List ℕ) (r : Record) (bytes : List ℕ) where
   -- bits that are read alike are received alike
   pub alike : (confidences : List ℕ) → length confidences ≡ 54 → soft_read (logical_bit ord bytes) (confidence_of ord confidences) ≡ read (logical_bit ord bytes)
       → soft_receive ord r bytes confidences ≡ receive ord r bytes
-  unfolding soft_receive receive
   alike confidences h e =
-      ap (λ (n : Option Refusal). soft_unless n r (logical_bit ord bytes) (confidence_of ord confidences)) (soft_refusal_is ord r bytes confidences h)
+      soft_by ord r bytes confidences (receive_refusal ord r bytes) (soft_refusal_is ord r bytes confidences h)
       ∙ ap (step_unless (receive_refusal ord r bytes) r (logical_bit ord bytes 53)) e
+      ∙ sym (receive_is ord r bytes)
 
   -- a call that is not refused is lent an order
   ordered : receive_refusal ord r bytes ≡ None → Order ord
@@ -49,7 +49,6 @@ module _ (ord : List ℕ) (r : Record) (bytes : List ℕ) where
 
   -- 54 equal confidences above 0; where the call is refused, both ways refuse it alike
   equal_alike : (k : ℕ) → 0 < k → (SpareShown (logical_bit ord bytes) → ⊥) → soft_receive ord r bytes (replicate 54 k) ≡ receive ord r bytes
-  unfolding soft_receive receive
   equal_alike k h s = go (receive_refusal ord r bytes) refl
     where
       same : soft_refusal ord r bytes (replicate 54 k) ≡ receive_refusal ord r bytes
@@ -58,8 +57,7 @@ module _ (ord : List ℕ) (r : Record) (bytes : List ℕ) where
       go : (n : Option Refusal) → receive_refusal ord r bytes ≡ n → soft_receive ord r bytes (replicate 54 k) ≡ receive ord r bytes
       go None e = alike (replicate 54 k) (length-replicate 54 k) ((soft_claims (logical_bit ord bytes) (confidence_of ord (replicate 54 k))).equal k (all_equal ord (ordered e) k h) s)
       go (Some f) e =
-          ap (λ (m : Option Refusal). soft_unless m r (logical_bit ord bytes) (confidence_of ord (replicate 54 k))) (same ∙ e)
-          ∙ sym (ap (λ (m : Option Refusal). receive_unless m ord r bytes) e)
+          soft_by ord r bytes (replicate 54 k) (Some f) (same ∙ e) ∙ sym (receive_by ord r bytes (Some f) e)
 
   -- all of it
   pub soft_received : SoftClaims ord r bytes

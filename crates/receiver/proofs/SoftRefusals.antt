@@ -17,6 +17,7 @@ use Rattle.order.specs.SoftTaking.{confidence_of, confidence_table}
 use Rattle.reading.specs.SoftReading.{soft_read}
 use Rattle.records.specs.Records.{valid}
 use Rattle.records.specs.declared.Record.{Record}
+use Rattle.receiver.specs.declared.Received.{Received}
 use Rattle.receiver.specs.Steps.{step}
 use Rattle.receiver.specs.Receiving.{record_table}
 use Rattle.receiver.specs.SoftReceiving.{soft_refusal, soft_unless, soft_receive}
@@ -50,13 +51,21 @@ module _ (ord : List ℕ) (r : Record) (bytes confidences : List ℕ) where
       let f = append_none (frame_table ord bytes) (confidence_table confidences) t in
       (f, confidences_taken_only confidences (sym (passes (frame_table ord bytes) (confidence_table confidences) f) ∙ t), record_taken_only r (sym (taking_passes t) ∙ e))
 
+  -- the definition. No other law opens it, so that a wrong one is refused here, and soon
+  pub soft_is : soft_receive ord r bytes confidences ≡ soft_unless (soft_refusal ord r bytes confidences) r (logical_bit ord bytes) (confidence_of ord confidences)
+  unfolding soft_receive
+  soft_is = refl
+
+  -- what a call gives by its refusal
+  pub soft_by : (n : Option Refusal) → soft_refusal ord r bytes confidences ≡ n
+      → soft_receive ord r bytes confidences ≡ soft_unless n r (logical_bit ord bytes) (confidence_of ord confidences)
+  soft_by n e = soft_is ∙ ap (λ (m : Option Refusal). soft_unless m r (logical_bit ord bytes) (confidence_of ord confidences)) e
+
   -- a call that is not refused takes one step by what the bits are read as with these confidences
   pub soft_taken : soft_refusal ord r bytes confidences ≡ None
       → soft_receive ord r bytes confidences ≡ step r (logical_bit ord bytes 53) (soft_read (logical_bit ord bytes) (confidence_of ord confidences))
-  unfolding soft_receive
-  soft_taken e = ap (λ (n : Option Refusal). soft_unless n r (logical_bit ord bytes) (confidence_of ord confidences)) e
+  soft_taken e = soft_by None e
 
   -- a refused call leaves the record
   pub soft_refused : (f : Refusal) → soft_refusal ord r bytes confidences ≡ Some f → (soft_receive ord r bytes confidences).next ≡ r
-  unfolding soft_receive
-  soft_refused f e = ap (λ (n : Option Refusal). (soft_unless n r (logical_bit ord bytes) (confidence_of ord confidences)).next) e
+  soft_refused f e = ap (λ (x : Received). x.next) (soft_by (Some f) e)

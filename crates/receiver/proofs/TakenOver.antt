@@ -19,9 +19,10 @@ use Rattle.records.specs.Records.{repeats_in, valid}
 use Rattle.records.specs.OldRecords.{valid_old, old_table, with_count}
 use Rattle.records.specs.declared.OldRecord.{OldRecord}
 use Rattle.receiver.specs.Steps.{accepted, repeated, step, step_unless}
-use Rattle.receiver.specs.Receiving.{record_table, receive}
-use Rattle.receiver.specs.SoftReceiving.{soft_receive}
+use Rattle.receiver.specs.Receiving.{record_table}
 use Rattle.receiver.specs.OldReceiving.{old_step, old_unless, old_receive, old_soft_receive}
+use Rattle.receiver.proofs.Refusals.{receive_is}
+use Rattle.receiver.proofs.SoftRefusals.{soft_is}
 use Rattle.receiver.specs.TakenOver.{in_step, TakenOverRecord, TakenOverClaim}
 
 module _ (old : OldRecord) where
@@ -52,10 +53,10 @@ module _ (old : OldRecord) where
       ap (λ (t : Table). step_unless (first_refusal (before t)) (with_count old) sync x) taken_table ∙ taken_unless (first_refusal (before (old_table old))) sync x
 
   pub taken_over_lem : (ord bytes : List ℕ) → TakenOverClaim ord old bytes
-  unfolding receive soft_receive old_receive old_soft_receive
+  unfolding old_receive old_soft_receive
   taken_over_lem ord bytes =
       let g = logical_bit ord bytes in
       record {
-        plain = taken_call (λ t. frame_table ord bytes ++ t) (g 53) (read g);
-        soft = λ confidences. taken_call (λ t. (frame_table ord bytes ++ confidence_table confidences) ++ t) (g 53) (soft_read g (confidence_of ord confidences));
+        plain = receive_is ord (with_count old) bytes ∙ taken_call (λ t. frame_table ord bytes ++ t) (g 53) (read g);
+        soft = λ confidences. soft_is ord (with_count old) bytes confidences ∙ taken_call (λ t. (frame_table ord bytes ++ confidence_table confidences) ++ t) (g 53) (soft_read g (confidence_of ord confidences));
       }
