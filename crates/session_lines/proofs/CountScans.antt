@@ -13,7 +13,7 @@ use Rattle.text.specs.Text.{digits, decimal}
 use Rattle.text.proofs.Decimals.{decimal_one}
 use Rattle.session_lines.specs.Lines.{digits_value}
 use Rattle.session_lines.specs.Scans.{begins, digits_in}
-use Rattle.session_lines.proofs.WholeLines.{eqb_comm}
+use Rattle.session_lines.proofs.Scans.{eqb_comm}
 use Rattle.session_lines.proofs.Values.{digit_cases}
 use Rattle.session_lines.proofs.Digits.{digits_le, digits_zero, digits_first, decimal_after}
 

@@ -6,7 +6,7 @@ use Prim.Native.Nat.{ℕ, zero, suc, ◌+◌, ◌-◌, ◌*◌, ◌/◌, ◌%◌
 use native.Mathlib.Numerals.{add-one}
 use native.Mathlib.Omega.{arith}
 use lib.ListN.{length, get_or, take, drop, drop_of_length-le}
-use lib.Seq.{drop-cons, take-nil}
+use lib.Seq.{drop-cons}
 use borrow.Author.Tests.{le-leb}
 use Rattle.bits.specs.Ascii.{digit_byte}
 use Rattle.text.specs.Text.{decimal}
@@ -15,28 +15,27 @@ use Rattle.session_lines.specs.Lines.{digits_value}
 use Rattle.session_lines.specs.Scans.{digits_in}
 use Rattle.session_lines.proofs.Values.{digit_cases}
 
-module _ (text : List ℕ) (i k : ℕ) where
-  -- one digit more
-  pub digits_more : i < length text → 48 ≤ get_or text i 0 → get_or text i 0 ≤ 57 → digits_in (take (suc k) (drop i text)) ≡ suc (digits_in (take k (drop (i + 1) text)))
-  unfolding digits_in
-  digits_more h low high = rw (add-one, drop-cons text i 0 h, le-leb 48 (get_or text i 0) low, le-leb (get_or text i 0) 57 high) refl
+-- from place i on, by the byte there: a digit counts, and any other byte stops
+module _ (t : List ℕ) (i v : ℕ) (h : i < length t) where
+  abbrev c : ℕ
+  c = get_or t i 0
 
-  -- a byte that is no digit stops
-  pub digits_stop : i < length text → (48 ≤ get_or text i 0 → get_or text i 0 ≤ 57 → ⊥) → digits_in (take (suc k) (drop i text)) ≡ 0
-  unfolding digits_in
-  digits_stop h other =
-      rw (drop-cons text i 0 h)
-      (digit_cases (λ t. cond t (suc (digits_in (take k (drop (suc i) text)))) 0 ≡ 0) (get_or text i 0) (λ low high. absurd (other low high)) refl)
+  pub digit_taken : 48 ≤ c → c ≤ 57
+      → (digits_value v (drop i t) ≡ digits_value (10 * v + (c - 48)) (drop (i + 1) t)) × (digits_in (drop i t) ≡ suc (digits_in (drop (i + 1) t)))
+  unfolding digits_in digits_value
+  digit_taken low high = rw (add-one, drop-cons t i 0 h, le-leb 48 c low, le-leb c 57 high) (refl, refl)
 
-  -- the end of the text stops
-  pub digits_out : length text ≤ i → digits_in (take k (drop i text)) ≡ 0
-  unfolding digits_in
-  digits_out h = rw (drop_of_length-le text h, take-nil k) refl
+  pub digits_stop : (48 ≤ c → c ≤ 57 → ⊥) → (digits_value v (drop i t) ≡ v) × (digits_in (drop i t) ≡ 0)
+  unfolding digits_in digits_value
+  digits_stop other =
+      rw (drop-cons t i 0 h)
+      (digit_cases (λ b. (cond b (digits_value (10 * v + (c - 48)) (drop (suc i) t)) v ≡ v) × (cond b (suc (digits_in (drop (suc i) t))) 0 ≡ 0)) c
+      (λ low high. absurd (other low high)) (refl, refl))
 
--- where none may be taken there is none
-pub digits_none : (t : List ℕ) → digits_in (take 0 t) ≡ 0
-unfolding digits_in
-digits_none t = refl
+-- past the last byte there is none
+pub digits_out : (t : List ℕ) (i v : ℕ) → length t ≤ i → (digits_value v (drop i t) ≡ v) × (digits_in (drop i t) ≡ 0)
+unfolding digits_in digits_value
+digits_out t i v h = rw (drop_of_length-le t h) (refl, refl)
 
 -- there are no more of them than bytes
 pub digits_le : (k : ℕ) (t : List ℕ) → digits_in (take k t) ≤ length t

@@ -53,23 +53,26 @@ pub name_begins : (n : ℕ) (t : List ℕ) → begins (count_line n) t ≡ begin
 unfolding count_line
 name_begins n t = begins_join (ascii "frames=") (decimal n ++ ascii "\n") t
 
+-- a line is a good third one where it is that for the number which four digits after the name write
+pub third_told : (t : List ℕ) (n : ℕ) → n ≡ digits_value 0 (take 4 (drop 7 t)) → leb n most_frames && begins (count_line n) t ≡ is_count_line (line_of t)
+unfolding is_count_line
+third_told t n is = rw (count_begins (count_of (line_of t)) t) (go (begins (ascii "frames=") t) refl)
+  where
+    m : ℕ
+    m = count_of (line_of t)
+
+    go : (b : Bool) → begins (ascii "frames=") t ≡ b → leb n most_frames && begins (count_line n) t ≡ leb m most_frames && begins (count_line m) t
+    go true e = let same : m ≡ n = count_digits t e ∙ sym is in rw same refl
+    go false e = rw (name_begins n t, name_begins m t, e, and-false (leb n most_frames), and-false (leb m most_frames)) refl
+
 module _ (text : List ℕ) (n : ℕ) (is : n ≡ digits_value 0 (take 4 (drop 29 text))) where
   -- where the name stands at its place, the digits after it write the number of the line
   number_is : begins (ascii "frames=") (drop 22 text) ≡ true → count_of (third_line text) ≡ n
   number_is e = count_digits (drop 22 text) e ∙ ap (λ (l : List ℕ). digits_value 0 (take 4 l)) (drop-drop 7 22 text) ∙ sym is
 
-  -- the third line is good where it is that for the number which four digits at their place write
-  pub third_is : leb n most_frames && begins (count_line n) (drop 22 text) ≡ is_count_line (third_line text)
-  unfolding is_count_line
-  third_is = rw (count_begins (count_of (third_line text)) (drop 22 text)) (go (begins (ascii "frames=") (drop 22 text)) refl)
-    where
-      m : ℕ
-      m = count_of (third_line text)
-
-      go : (b : Bool) → begins (ascii "frames=") (drop 22 text) ≡ b
-          → leb n most_frames && begins (count_line n) (drop 22 text) ≡ leb m most_frames && begins (count_line m) (drop 22 text)
-      go true e = rw (number_is e) refl
-      go false e = rw (name_begins n (drop 22 text), name_begins m (drop 22 text), e, and-false (leb n most_frames), and-false (leb m most_frames)) refl
+  -- the third line is good where it is that for this number
+  third_is : leb n most_frames && begins (count_line n) (drop 22 text) ≡ is_count_line (third_line text)
+  third_is = third_told (drop 22 text) n (is ∙ ap (λ (l : List ℕ). digits_value 0 (take 4 l)) (sym (drop-drop 7 22 text)))
 
   -- the first bad line is the first that is not at its place
   pub bad_by : bad_header_line text ≡ first_bad (begins file_line text) (begins order_line (drop 10 text)) (leb n most_frames && begins (count_line n) (drop 22 text))

@@ -3,7 +3,6 @@ pub mod WholeLines
 pub mod Values
 pub mod Numbers
 pub mod Digits
-pub mod Turns
 pub mod CountLines
 pub mod HeaderLines
 pub mod CountScans

@@ -2,14 +2,12 @@
 use mathlib.Core.Path.{◌≡◌, refl, sym, ap, ◌∙◌}
 use mathlib.Core.Bool.{Bool, true, false, ◌&&◌, and_assoc, and-eq-true_iff, false≢true}
 use mathlib.Core.List.{List, [], ◌∷◌, ◌++◌}
-use Prim.Native.Nat.{ℕ, zero, suc, ◌+◌, ◌≤◌, ◌<◌}
+use Prim.Native.Nat.{ℕ, zero, suc, ◌≤◌}
 use native.Mathlib.Nat.{not-suc-le-zero, le_of_suc-le-suc}
-use native.Mathlib.Numerals.{add-one}
-use native.Mathlib.Omega.{arith}
 use lib.Dec.{eqb}
-use lib.ListN.{length, get_or, take, drop, drop_of_length-le}
-use lib.Seq.{drop-cons}
-use borrow.Author.Tests.{eq-eqb, eqb-true}
+use lib.ListN.{length, take, drop}
+use borrow.Author.Tests.{eq-eqb, ne_eqb, eqb-true, eqb-false}
+use Rattle.std.specs.Cmp.Lexicographic.{pointwise}
 use Rattle.session_lines.specs.Scans.{begins}
 
 -- a text that begins with bytes is these and what follows them
@@ -43,26 +41,17 @@ begins_take (b ∷ bs) t zero h = absurd (not-suc-le-zero h)
 begins_take (b ∷ bs) [] (suc n) h = refl
 begins_take (b ∷ bs) (c ∷ cs) (suc n) h = ap (λ (t : Bool). eqb b c && t) (begins_take bs cs n (le_of_suc-le-suc h))
 
--- a text shorter than the bytes does not begin with them
-pub begins_short : (w t : List ℕ) → length t < length w → begins w t ≡ false
-unfolding begins
-begins_short [] t h = absurd (not-suc-le-zero h)
-begins_short (b ∷ bs) [] h = refl
-begins_short (b ∷ bs) (c ∷ cs) h = go (eqb b c) (begins_short bs cs (le_of_suc-le-suc h))
+-- a test for equal numbers is that of their exchange
+pub eqb_comm : (a b : ℕ) → eqb a b ≡ eqb b a
+eqb_comm a b = go (eqb a b) refl
   where
-    go : (t : Bool) → begins bs cs ≡ false → t && begins bs cs ≡ false
-    go true e = e
-    go false e = refl
+    go : (t : Bool) → eqb a b ≡ t → t ≡ eqb b a
+    go true e = sym (eq-eqb b a (sym (eqb-true a b e)))
+    go false e = sym (ne_eqb b a (λ q. eqb-false a b e (sym q)))
 
--- from place i on, the bytes there are compared and then those one place further
-pub begins_more : (w text : List ℕ) (at i : ℕ) → i < length w → at + length w ≤ length text
-    → begins (drop i w) (drop (at + i) text) ≡ eqb (get_or w i 0) (get_or text (at + i) 0) && begins (drop (i + 1) w) (drop (at + (i + 1)) text)
+-- std's test of a front against these bytes
+pub starts : (w t : List ℕ) → pointwise eqb (take (length w) t) w ≡ begins w t
 unfolding begins
-begins_more w text at i h room =
-    let next : at + (i + 1) ≡ suc (at + i) = omega arith in
-    rw (next, add-one, drop-cons w i 0 h, drop-cons text (at + i) 0 (omega arith)) refl
-
--- past the last of the bytes nothing is left to compare
-pub begins_out : (w t : List ℕ) (i : ℕ) → length w ≤ i → begins (drop i w) t ≡ true
-unfolding begins
-begins_out w t i h = rw (drop_of_length-le w h) refl
+starts [] t = refl
+starts (b ∷ bs) [] = refl
+starts (b ∷ bs) (c ∷ cs) = rw (eqb_comm c b, starts bs cs) refl

@@ -4,12 +4,10 @@ use mathlib.Core.Bool.{Bool, true, false, ◌&&◌, cond, and-eq-true_iff}
 use mathlib.Core.List.{List, [], ◌∷◌}
 use Prim.Native.Nat.{ℕ, zero, suc, ◌+◌, ◌-◌, ◌*◌, ◌^◌, ◌≤◌, ◌<◌}
 use native.Mathlib.Nat.{mul-one, mul_assoc, mul-le-mul_left, pow-zero, pow-succ', one-le-pow}
-use native.Mathlib.Numerals.{add-one}
 use native.Mathlib.Omega.{arith}
 use lib.Dec.{leb, eqb}
-use lib.ListN.{length, get_or, take, drop}
-use lib.Seq.{drop-cons}
-use borrow.Author.Tests.{le-leb, leb-true, eqb-true}
+use lib.ListN.{take}
+use borrow.Author.Tests.{leb-true, eqb-true}
 use Rattle.session_lines.specs.Lines.{line_of, digits_value}
 
 -- what holds for a digit and for any other byte holds for the test
@@ -19,12 +17,6 @@ digit_cases P c digit other = go (leb 48 c && leb c 57) refl
     go : (t : Bool) → leb 48 c && leb c 57 ≡ t → P t
     go true e = let p = (and-eq-true_iff (leb 48 c) (leb c 57)).0 e in digit (leb-true 48 c p.0) (leb-true c 57 p.1)
     go false e = other
-
--- one digit more
-pub value_more : (text : List ℕ) (i k v : ℕ) → i < length text → 48 ≤ get_or text i 0 → get_or text i 0 ≤ 57
-    → digits_value v (take (suc k) (drop i text)) ≡ digits_value (10 * v + (get_or text i 0 - 48)) (take k (drop (i + 1) text))
-unfolding digits_value
-value_more text i k v h low high = rw (add-one, drop-cons text i 0 h, le-leb 48 (get_or text i 0) low, le-leb (get_or text i 0) 57 high) refl
 
 -- the value so far is no more than that of all digits
 pub value_le : (v : ℕ) (t : List ℕ) → v ≤ digits_value v t

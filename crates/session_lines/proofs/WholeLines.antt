@@ -1,13 +1,14 @@
 -- The first line of a text against a line with its LF: it is that line where the text begins with it. Assumes nothing.
-use mathlib.Core.Path.{◌≡◌, refl, sym, ap, ◌∙◌}
+use mathlib.Core.Path.{◌≡◌, refl, ap, ◌∙◌}
 use mathlib.Core.Bool.{Bool, true, false, ◌&&◌, cond, and-eq-true_iff, false≢true}
 use mathlib.Core.List.{List, [], ◌∷◌, ◌++◌}
 use Prim.Native.Nat.{ℕ}
 use lib.Dec.{eqb}
-use borrow.Author.Tests.{eq-eqb, ne_eqb, eqb-true, eqb-false}
+use borrow.Author.Tests.{eq-eqb, ne_eqb, eqb-true}
 use Rattle.bits.specs.Lists.{Every}
 use Rattle.session_lines.specs.Lines.{line_of, same_bytes}
 use Rattle.session_lines.specs.Scans.{begins}
+use Rattle.session_lines.proofs.Scans.{eqb_comm}
 
 -- bytes of which none ends a line
 abbrev pub Plain : List ℕ → Type 0
@@ -16,14 +17,6 @@ Plain body = Every (λ b. b ≡ 10 → ⊥) body
 -- a line of such bytes, with its end
 abbrev pub ended : List ℕ → List ℕ
 ended body = body ++ (10 ∷ [])
-
--- a test for equal numbers is that of their exchange
-pub eqb_comm : (a b : ℕ) → eqb a b ≡ eqb b a
-eqb_comm a b = go (eqb a b) refl
-  where
-    go : (t : Bool) → eqb a b ≡ t → t ≡ eqb b a
-    go true e = sym (eq-eqb b a (sym (eqb-true a b e)))
-    go false e = sym (ne_eqb b a (λ q. eqb-false a b e (sym q)))
 
 -- the first line of a text is a line with its end where the text begins with it
 pub line_begins : (body t : List ℕ) → Plain body → same_bytes (line_of t) (ended body) ≡ begins (ended body) t

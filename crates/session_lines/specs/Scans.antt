@@ -1,6 +1,8 @@
--- Helpers of the code: a text by the bytes at its places.
-use Rattle.std.specs.Prelude.{ℕ, suc, ◌+◌, ◌≡◌, Bool, true, false, ◌&&◌, cond, List, [], ◌∷◌, eqb, take, drop}
-use Rattle.session_lines.specs.Lines.{is_digit, digits_value}
+-- Helpers of the code: a text by what it begins with.
+use Rattle.std.specs.Prelude.{ℕ, suc, Bool, true, false, ◌&&◌, cond, List, [], ◌∷◌, eqb, length, Option, None, Some}
+use Rattle.session.specs.Format.{header}
+use Rattle.session_lines.specs.Lines.{line_of, is_digit, count_of, is_count_line}
+use Rattle.session_lines.specs.declared.header.Header.{Header}
 
 -- whether a text begins with these bytes
 unfoldable pub begins : List ℕ → List ℕ → Bool
@@ -13,6 +15,6 @@ unfoldable pub digits_in : List ℕ → ℕ
 digits_in [] = 0
 digits_in (c ∷ cs) = cond (is_digit c) (suc (digits_in cs)) 0
 
--- the number of at most four digits from offset 29 on, where the third line has it, and where it ends
-abbrev pub Counted : List ℕ → ℕ → ℕ → Type 0
-Counted text value end = (value ≡ digits_value 0 (take 4 (drop 29 text))) × (end ≡ 29 + digits_in (take 4 (drop 29 text)))
+-- what the first line of a text tells as a third line, if it is one
+abbrev pub counted : List ℕ → Option Header
+counted text = cond (is_count_line (line_of text)) (Some (record { frames = count_of (line_of text); first = length (header (count_of (line_of text))) })) None

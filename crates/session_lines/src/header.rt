@@ -1,10 +1,10 @@
 // The three lines before the frames.
-ghost use Rattle.std.specs.Prelude.{◌≡◌, ◌≤◌};
-ghost use Rattle.session_lines.specs.Lines.{is_count_line};
-ghost use Rattle.session_lines.specs.Headers.{third_line, bad_header_line, header_of};
-ghost use Rattle.session_lines.specs.Scans.{Counted};
+ghost use Rattle.std.specs.Prelude.{◌≡◌, ◌≤◌, take};
+ghost use Rattle.refusal.specs.declared.Refusal.TheVariants.{BadLine};
+ghost use Rattle.session_lines.specs.Lines.{digits_value};
+ghost use Rattle.session_lines.specs.Headers.{header_of};
+ghost use Rattle.session_lines.specs.Scans.{digits_in, counted};
 
-use crate::bytes::has_bytes;
 use refusal::Refusal;
 
 // How many frames follow, and where the first one's line starts.
@@ -21,79 +21,73 @@ pub struct LineRefusal {
     pub line: u16,
 }
 
-// A number in a text, and the offset where it ends.
+// A number, and how many digits write it.
 #[derive(Clone, Copy)]
 struct Count {
     value: usize,
-    end: usize,
+    digits: usize,
 }
 
-// The number from offset 29 on, where the third line has it: four digits at most.
+// The number in front of a text: four digits at most.
 fn count_in(text: &[u8]) -> Count
-    ensures equal { Counted text.now result.value result.end }
-    ensures bound { result.end ≤ 33 }
+    ensures value { result.value ≡ digits_value 0 (take 4 text.now) }
+    ensures digits { result.digits ≡ digits_in (take 4 text.now) }
+    ensures bound { result.digits ≤ 4 }
 {
+    let front = &text[..text.len().min(4)];
     let mut value = 0;
-    for i in 29..33 {
-        if text.len() <= i {
-            return Count { value, end: i };
+    for (i, c) in front.iter().enumerate() {
+        if !c.is_ascii_digit() {
+            return Count { value, digits: i };
         }
-        let c = text[i];
-        if c < b'0' {
-            return Count { value, end: i };
-        }
-        if b'9' < c {
-            return Count { value, end: i };
-        }
-        value = 10 * value + (c as usize - 48);
+        value = 10 * value + usize::from(*c - b'0');
     }
-    Count { value, end: 33 }
+    Count {
+        value,
+        digits: front.len(),
+    }
 }
 
-// Whether the third line is good: the number in it is not too high, has no `0` in front of another digit, and ends with the line.
-fn is_count_line(text: &[u8], value: usize, end: usize) -> bool
-    requires { Counted text.now value end }
-    ensures { result ≡ is_count_line (third_line text.now) }
+// What the third line tells, in front of a text, if it is good: the number in it is not too high, has no `0` in front of
+// another digit, and ends with the line.
+fn read_count(text: &[u8]) -> Option<Header>
+    ensures { result ≡ counted text.now }
 {
-    if !has_bytes(text, 22, b"frames=") {
-        return false;
+    let number = text.strip_prefix(b"frames=")?;
+    let count = count_in(number);
+    if number.len() <= count.digits {
+        return None;
     }
-    if text.len() <= end {
-        return false;
+    let plain = (b'0' < number[0]) | (count.digits == 1);
+    if (count.value <= 2000) & plain & (number[count.digits] == b'\n') {
+        Some(Header {
+            frames: count.value,
+            first: 30 + count.digits,
+        })
+    } else {
+        None
     }
-    (value <= 2000) & ((b'0' < text[29]) | (end == 30)) & (text[end] == b'\n')
 }
 
-// The first bad line.
-fn bad_line(text: &[u8], value: usize, end: usize) -> Option<u16>
-    requires { Counted text.now value end }
-    ensures { result ≡ bad_header_line text.now }
+// The refusal of a bad line.
+fn bad(line: u16) -> LineRefusal
+    ensures { result ≡ record { refusal = BadLine; line = line } }
 {
-    if !has_bytes(text, 0, b"file=melp\n") {
-        return Some(1);
+    LineRefusal {
+        refusal: Refusal::BadLine,
+        line,
     }
-    if !has_bytes(text, 10, b"order=house\n") {
-        return Some(2);
-    }
-    if !is_count_line(text, value, end) {
-        return Some(3);
-    }
-    None
 }
 
 // What the three lines of a text tell, each judged in turn; the first bad one is refused.
 pub fn read_header(text: &[u8]) -> Result<Header, LineRefusal>
     ensures { result ≡ header_of text.now }
 {
-    let count = count_in(text);
-    match bad_line(text, count.value, count.end) {
-        Some(line) => Err(LineRefusal {
-            refusal: Refusal::BadLine,
-            line,
-        }),
-        None => Ok(Header {
-            frames: count.value,
-            first: count.end + 1,
-        }),
-    }
+    let Some(lines) = text.strip_prefix(b"file=melp\n") else {
+        return Err(bad(1));
+    };
+    let Some(lines) = lines.strip_prefix(b"order=house\n") else {
+        return Err(bad(2));
+    };
+    read_count(lines).ok_or(bad(3))
 }

@@ -2,10 +2,8 @@
 //
 //   header  the three lines before the frames
 //   frames  the line of a frame
-//   bytes   bytes of a text
 #![tactic(auto)]
 
-mod bytes;
 mod frames;
 mod header;
 

@@ -1,31 +1,67 @@
--- `session_lines::header::read_header` meets its contract: the number in the third line, and the first bad line. Assumes nothing.
-use mathlib.Core.Path.{◌≡◌, sym, ap, ◌∙◌}
+-- `session_lines::header::read_header` meets its contract: one line after the other. Assumes nothing.
+use mathlib.Core.Path.{◌≡◌, refl, sym, ap, ◌∙◌}
+use mathlib.Core.Bool.{Bool, true, false, cond}
 use mathlib.Core.List.{List}
-use Prim.Native.Nat.{ℕ, ◌+◌}
-use native.Mathlib.Omega.{arith}
-use Rattle.std.specs.Prelude.{Option, None, Some, Ok}
-use Rattle.session_lines.specs.Headers.{bad_header_line, told_unless, header_of}
-use Rattle.session_lines.specs.Scans.{Counted}
-use Rattle.session_lines.proofs.HeaderLines.{frames_is}
-use Rattle.session_lines.proofs.HeaderScans.{scan_first}
+use Prim.Native.Nat.{ℕ}
+use lib.ListN.{length, drop}
+use lib.Seq.{drop-drop}
+use Rattle.std.specs.Prelude.{None, Some, Err}
+use Rattle.std.specs.Option.{ok_or}
+use Rattle.refusal.specs.declared.Refusal.TheVariants.{BadLine}
+use Rattle.session.specs.Format.{file_line, order_line, header}
+use Rattle.session_lines.specs.Lines.{count_of, is_count_line}
+use Rattle.session_lines.specs.Scans.{begins, counted}
+use Rattle.session_lines.specs.Headers.{third_line, frames_in, first_place, told_unless, header_of}
+use Rattle.session_lines.specs.declared.header.LineRefusal.{LineRefusal}
+use Rattle.session_lines.proofs.Scans.{starts}
+use Rattle.session_lines.proofs.HeaderLines.{bad_is}
 use Rattle.session_lines.proofs.header.read_header.Goals as goal
 
--- what is told by the first bad line
-by_bad : (text : List ℕ) (bad : Option ℕ) → bad ≡ bad_header_line text → told_unless bad text ≡ header_of text
-unfolding header_of
-by_bad text bad is = ap (λ (b : Option ℕ). told_unless b text) is
+abbrev bad : ℕ → LineRefusal
+bad line = record { refusal = BadLine; line = line }
 
--- where none is bad
-told : (text : List ℕ) (n end : ℕ) → Counted text n end → None ≡ bad_header_line text → Ok (record { frames = n; first = end + 1 }) ≡ header_of text
-told text n end counted is =
-    (λ i. Ok (record { frames = sym (frames_is text n counted.0 (sym is)) i; first = sym (scan_first text n end counted (sym is)) i }))
-    ∙ by_bad text None is
+module _ (text : List ℕ) where
+  -- the first line is bad
+  by_first : begins file_line text ≡ false → Err (bad 1) ≡ header_of text
+  unfolding header_of
+  by_first f = rw (bad_is text, f) refl
 
-pub returns-in-Some : goal.returns-in-Some
-returns-in-Some c = by_bad c.args.text.now (Some c.in-Some.line) c.in-Some.ensures
+  -- the second is
+  by_second : begins file_line text ≡ true → begins order_line (drop 10 text) ≡ false → Err (bad 2) ≡ header_of text
+  unfolding header_of
+  by_second f o = rw (bad_is text, f, o) refl
 
-pub overflow_add-result : goal.overflow_add-result
-overflow_add-result c = omega (arith, c.count_in-count.ensures.bound)
+  -- none of these
+  by_third : begins file_line text ≡ true → begins order_line (drop 10 text) ≡ true → ok_or (counted (drop 22 text)) (bad 3) ≡ header_of text
+  unfolding header_of frames_in first_place
+  by_third f o = rw (bad_is text, f, o) (go (is_count_line (third_line text)))
+    where
+      go : (b : Bool) → ok_or (cond b (Some (record { frames = count_of (third_line text); first = length (header (count_of (third_line text))) })) None) (bad 3)
+          ≡ told_unless (cond b None (Some 3)) text
+      go true = refl
+      go false = refl
 
-pub returns-in-None : goal.returns-in-None
-returns-in-None c = let n = c.count_in-count in told c.args.text.now n.result.value n.result.end n.ensures.equal c.in-None.ensures
+pub returns-in_default : goal.returns-in_default
+returns-in_default c =
+    let text = c.args.text.now in
+    ap Err c.bad.ensures ∙ by_first text (sym (starts file_line text) ∙ c.in_default.ensures.cases)
+
+pub returns-in_default-strip_prefix : goal.returns-in_default-strip_prefix
+returns-in_default-strip_prefix c =
+    let text = c.args.text.now in
+    let lines = c.in-Some.lines.now in
+    let first = c.in-Some.ensures.cases in
+    let order = sym (ap (begins order_line) first.1) ∙ sym (starts order_line lines) ∙ c.in_default-strip_prefix.ensures.cases in
+    ap Err c.bad-in_default-strip_prefix.ensures ∙ by_second text (sym (starts file_line text) ∙ first.0) order
+
+pub returns : goal.returns
+returns c =
+    let text = c.args.text.now in
+    let lines = c.in-Some.lines.now in
+    let first = c.in-Some.ensures.cases in
+    let second = c.in-Some-strip_prefix.ensures.cases in
+    let order = sym (ap (begins order_line) first.1) ∙ sym (starts order_line lines) ∙ second.0 in
+    let rest = second.1 ∙ ap (drop 12) first.1 ∙ drop-drop 12 10 text in
+    c.ok_or.ensures.value
+    ∙ (λ i. ok_or ((c.read_count.ensures ∙ ap counted rest) i) (c.bad-2.ensures i))
+    ∙ by_third text (sym (starts file_line text) ∙ first.0) order
