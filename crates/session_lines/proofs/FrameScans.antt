@@ -2,13 +2,14 @@
 use mathlib.Core.Path.{◌≡◌, refl, sym, ap, ◌∙◌}
 use mathlib.Core.Bool.{Bool, true, false, ◌&&◌, and-eq-true_iff}
 use mathlib.Core.List.{List, [], ◌∷◌, ◌++◌}
-use Prim.Native.Nat.{ℕ, ◌≤◌, ◌<◌}
+use Prim.Native.Nat.{ℕ, ◌≤◌}
 use native.Mathlib.Omega.{arith}
-use lib.Dec.{eqb}
-use lib.ListN.{length, get_or, take, drop, length-drop, take-append-drop}
-use lib.Seq.{length-take-le, take-take, get_or-take, get_or_at, drop-cons, drop-drop, append_snoc}
-use borrow.Author.Tests.{eq-eqb, eqb-true}
+use lib.ListN.{length, take, drop, length-drop, take-append-drop}
+use lib.Seq.{take_at, drop_at, length-take-le, take-take, drop-drop, append_snoc}
+use Rattle.text.specs.Text.{ascii}
 use Rattle.session_lines.specs.Lines.{line_of, all_hex, hex_bytes, is_frame_line, frame_of}
+use Rattle.session_lines.specs.Scans.{begins}
+use Rattle.session_lines.proofs.Scans.{begins_is}
 use Rattle.session_lines.proofs.WholeLines.{line_first}
 use Rattle.session_lines.proofs.Fronts.{line_le, line_front}
 use Rattle.session_lines.proofs.HexDigits.{hex_plain}
@@ -29,57 +30,46 @@ frame_is t e =
     let front : line_of t ≡ take 17 t = sym (line_front t) ∙ ap (λ (k : ℕ). take k t) n in
     (omega (arith, line_le t), front, ap (λ (l : List ℕ). hex_bytes (take 14 (drop 2 l))) front ∙ ap hex_bytes (part_is t))
 
--- where fewer bytes are left it is none
-pub scan_out : (t : List ℕ) → length t < 17 → is_frame_line (line_of t) ≡ false
-scan_out t h = go (is_frame_line (line_of t)) refl
-  where
-    go : (b : Bool) → is_frame_line (line_of t) ≡ b → b ≡ false
-    go true e = absurd (omega (arith, (frame_is t e).0))
-    go false e = refl
+-- the tests of what a text begins with: `f=`, 14 digits and the line end
+abbrev pub scanned : List ℕ → Bool
+scanned t = begins (ascii "f=") t && (begins (ascii "\n") (drop 16 t) && all_hex (take 14 (drop 2 t)))
 
--- the tests of `f=` and of the line end
-abbrev marks : List ℕ → Bool
-marks t = eqb (get_or t 0 0) 102 && eqb (get_or t 1 0) 61 && eqb (get_or t 16 0) 10
-
--- a frame's line passes these tests
-line_scanned : (t : List ℕ) → is_frame_line (line_of t) ≡ true → all_hex (take 14 (drop 2 t)) && marks t ≡ true
-line_scanned t e =
-    let p = digits_are (line_of t) e in
-    let front = (frame_is t e).1 in
-    let ds : List ℕ = take 14 (drop 2 (line_of t)) in
-    let digits : ds ≡ take 14 (drop 2 t) = ap (λ (l : List ℕ). take 14 (drop 2 l)) front ∙ part_is t in
-    let at : (k : ℕ) → k < 17 → get_or t k 0 ≡ get_or (digits_line ds) k 0 =
-    λ k h. sym (get_or-take 17 t k 0 h) ∙ ap (λ (l : List ℕ). get_or l k 0) (sym front ∙ p.0) in
-    rw (← digits, p.1, eq-eqb (get_or t 0 0) 102 (at 0 (omega arith)), eq-eqb (get_or t 1 0) 61 (at 1 (omega arith)))
-    (eq-eqb (get_or t 16 0) 10 (at 16 (omega arith) ∙ get_or_at ds 10 [] 0 14 p.3))
+-- a frame's line and what follows it pass these tests
+line_scanned : (ds r : List ℕ) → length ds ≡ 14 → all_hex ds ≡ true → scanned (digits_line ds ++ r) ≡ true
+unfolding begins
+line_scanned ds r n e =
+    let rest : ds ++ (10 ∷ []) ++ r ≡ ds ++ (10 ∷ r) = append_snoc ds 10 r in
+    ap (λ (l : List ℕ). begins (ascii "\n") (drop 14 l) && all_hex (take 14 l)) rest ∙ rw (drop_at ds (10 ∷ r) 14 n, take_at ds (10 ∷ r) 14 n, e) refl
 
 -- a text that passes them begins with a frame's line
-scanned_line : (t : List ℕ) → 17 ≤ length t → all_hex (take 14 (drop 2 t)) && marks t ≡ true → is_frame_line (line_of t) ≡ true
-scanned_line t h e =
+scanned_line : (t : List ℕ) → scanned t ≡ true → is_frame_line (line_of t) ≡ true
+scanned_line t e =
     let ds : List ℕ = take 14 (drop 2 t) in
-    let p = (and-eq-true_iff (all_hex ds) (marks t)).0 e in
-    let q = (and-eq-true_iff (eqb (get_or t 0 0) 102 && eqb (get_or t 1 0) 61) (eqb (get_or t 16 0) 10)).0 p.1 in
-    let r = (and-eq-true_iff (eqb (get_or t 0 0) 102) (eqb (get_or t 1 0) 61)).0 q.0 in
-    let first : get_or t 0 0 ≡ 102 = eqb-true (get_or t 0 0) 102 r.0 in
-    let second : get_or t 1 0 ≡ 61 = eqb-true (get_or t 1 0) 61 r.1 in
-    let last : get_or t 16 0 ≡ 10 = eqb-true (get_or t 16 0) 10 q.1 in
+    let p = (and-eq-true_iff (begins (ascii "f=") t) (begins (ascii "\n") (drop 16 t) && all_hex ds)).0 e in
+    let q = (and-eq-true_iff (begins (ascii "\n") (drop 16 t)) (all_hex ds)).0 p.1 in
+    let end : drop 16 t ≡ 10 ∷ drop 1 (drop 16 t) = begins_is (ascii "\n") (drop 16 t) q.0 in
+    let long : 17 ≤ length t = omega (arith, ap length end, length-drop 16 t) in
     let rest : drop 2 t ≡ ds ++ (10 ∷ []) ++ drop 17 t =
     sym (take-append-drop 14 (drop 2 t))
-    ∙ ap (λ (l : List ℕ). ds ++ l) (drop-drop 14 2 t ∙ drop-cons t 16 0 (omega arith) ∙ ap (λ (c : ℕ). c ∷ drop 17 t) last)
+    ∙ ap (λ (l : List ℕ). ds ++ l) (drop-drop 14 2 t ∙ end ∙ ap (λ (l : List ℕ). 10 ∷ l) (drop-drop 1 16 t))
     ∙ sym (append_snoc ds 10 (drop 17 t)) in
-    let whole : t ≡ digits_line ds ++ drop 17 t =
-    drop-cons t 0 0 (omega arith)
-    ∙ (λ i. first i ∷ drop-cons t 1 0 (omega arith) i)
-    ∙ (λ i. 102 ∷ second i ∷ rest i) in
+    let whole : t ≡ digits_line ds ++ drop 17 t = begins_is (ascii "f=") t p.0 ∙ ap (λ (l : List ℕ). 102 ∷ 61 ∷ l) rest in
     let line : line_of t ≡ digits_line ds =
-    ap line_of whole ∙ line_first (102 ∷ 61 ∷ ds) (drop 17 t) (λ e. omega arith, (λ e. omega arith, hex_plain ds p.0)) in
-    ap is_frame_line line ∙ digits_line_lem ds (length-take-le 14 (drop 2 t) (omega (arith, length-drop 2 t))) p.0
+    ap line_of whole ∙ line_first (102 ∷ 61 ∷ ds) (drop 17 t) (λ e. omega arith, (λ e. omega arith, hex_plain ds q.1)) in
+    ap is_frame_line line ∙ digits_line_lem ds (length-take-le 14 (drop 2 t) (omega (arith, long, length-drop 2 t))) q.1
 
--- so where 17 bytes are left the tests tell
-pub scan_is : (t : List ℕ) → 17 ≤ length t
-    → is_frame_line (line_of t) ≡ (all_hex (take 14 (drop 2 t)) && (eqb (get_or t 0 0) 102 && eqb (get_or t 1 0) 61 && eqb (get_or t 16 0) 10))
-scan_is t h = go (is_frame_line (line_of t)) (all_hex (take 14 (drop 2 t)) && marks t) (line_scanned t) (scanned_line t h)
+-- so they tell whether the first line of a text is a frame's
+pub scan_is : (t : List ℕ) → is_frame_line (line_of t) ≡ scanned t
+scan_is t = go (is_frame_line (line_of t)) (scanned t) to (scanned_line t)
   where
+    to : is_frame_line (line_of t) ≡ true → scanned t ≡ true
+    to e =
+        let p = digits_are (line_of t) e in
+        let front = (frame_is t e).1 in
+        let whole : t ≡ digits_line (take 14 (drop 2 (line_of t))) ++ drop 17 t =
+        sym (take-append-drop 17 t) ∙ ap (λ (l : List ℕ). l ++ drop 17 t) (sym front ∙ p.0) in
+        ap scanned whole ∙ line_scanned (take 14 (drop 2 (line_of t))) (drop 17 t) p.3 p.1
+
     go : (a b : Bool) → (a ≡ true → b ≡ true) → (b ≡ true → a ≡ true) → a ≡ b
     go true b f g = sym (f refl)
     go false true f g = g refl

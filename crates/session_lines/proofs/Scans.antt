@@ -49,7 +49,14 @@ eqb_comm a b = go (eqb a b) refl
     go true e = sym (eq-eqb b a (sym (eqb-true a b e)))
     go false e = sym (ne_eqb b a (λ q. eqb-false a b e (sym q)))
 
--- std's test of a front against these bytes
+-- std's test that it starts with these bytes
+pub starts_with_is : (w t : List ℕ) → pointwise eqb w (take (length w) t) ≡ begins w t
+unfolding begins
+starts_with_is [] t = refl
+starts_with_is (b ∷ bs) [] = refl
+starts_with_is (b ∷ bs) (c ∷ cs) = ap (λ (s : Bool). eqb b c && s) (starts_with_is bs cs)
+
+-- and its test of a front against them
 pub starts : (w t : List ℕ) → pointwise eqb (take (length w) t) w ≡ begins w t
 unfolding begins
 starts [] t = refl

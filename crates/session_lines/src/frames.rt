@@ -1,5 +1,5 @@
 // The line of a frame.
-ghost use Rattle.std.specs.Prelude.{◌≡◌, true, ◌+◌, ◌*◌, ◌≤◌, length};
+ghost use Rattle.std.specs.Prelude.{◌≡◌, true, false, ◌+◌, ◌*◌, ◌≤◌, MatchOption};
 ghost use Rattle.session_lines.specs.Lines.{line_at, is_hex, hex_value, all_hex, hex_bytes, is_frame_line, frame_of, frame_read};
 
 use refusal::Refusal;
@@ -8,18 +8,14 @@ use refusal::Refusal;
 fn is_hex(c: u8) -> bool
     ensures { result ≡ is_hex c }
 {
-    ((b'0' <= c) & (c <= b'9')) | ((b'a' <= c) & (c <= b'f'))
+    c.is_ascii_digit() | ((b'a' <= c) & (c <= b'f'))
 }
 
 // Nothing but such digits. There is no early end: so the compiler tests many at once.
 fn all_hex(digits: &[u8]) -> bool
     ensures { result ≡ all_hex digits.now }
 {
-    let mut all = true;
-    for i in 0..digits.len() {
-        all = all & is_hex(digits[i]);
-    }
-    all
+    digits.iter().fold(true, |all, c| all & is_hex(*c))
 }
 
 // The value of such a digit.
@@ -39,25 +35,9 @@ fn hex_byte(high: u8, low: u8) -> u8
     16 * hex_value(high) + hex_value(low)
 }
 
-// Whether the line from `at` on is that of a frame.
-fn is_frame_line(text: &[u8], at: usize) -> bool
-    ensures { result ≡ is_frame_line (line_at text.now at) }
-{
-    if text.len() < 17 {
-        return false;
-    }
-    if text.len() - 17 < at {
-        return false;
-    }
-    if !all_hex(&text[at + 2..at + 16]) {
-        return false;
-    }
-    (text[at] == b'f') & (text[at + 1] == b'=') & (text[at + 16] == b'\n')
-}
-
 // The seven bytes of 14 digits.
-fn seven_bytes(digits: &[u8]) -> [u8; 7]
-    requires { (length digits.now ≡ 14) × (all_hex digits.now ≡ true) }
+fn seven_bytes(digits: &[u8; 14]) -> [u8; 7]
+    requires { all_hex digits.now ≡ true }
     ensures { result ≡ hex_bytes digits.now }
 {
     let mut frame = [0u8; 7];
@@ -67,22 +47,29 @@ fn seven_bytes(digits: &[u8]) -> [u8; 7]
     frame
 }
 
-// The frame in a line that is one.
-fn frame_in(text: &[u8], at: usize) -> [u8; 7]
-    requires { is_frame_line (line_at text.now at) ≡ true }
-    ensures { result ≡ frame_of (line_at text.now at) }
+// The 14 digits of the line from `at` on, where it is that of a frame.
+fn digits_at(text: &[u8], at: usize) -> Option<&[u8; 14]>
+    ensures { MatchOption result (is_frame_line (line_at text.now at) ≡ false) (λ digits. (is_frame_line (line_at text.now at) ≡ true) × (all_hex digits.now ≡ true) × (frame_of (line_at text.now at) ≡ hex_bytes digits.now)) }
 {
-    seven_bytes(&text[at + 2..at + 16])
+    let (digits, rest) = text
+        .get(at..)?
+        .strip_prefix(b"f=")?
+        .split_first_chunk::<14>()?;
+    if rest.starts_with(b"\n") & all_hex(digits) {
+        Some(digits)
+    } else {
+        None
+    }
 }
 
 // The frame of the line from `at` on. A line that is none is bad; the last two bits of a frame are 0.
 pub fn read_frame(text: &[u8], at: usize) -> Result<[u8; 7], Refusal>
     ensures { result ≡ frame_read (line_at text.now at) }
 {
-    if !is_frame_line(text, at) {
+    let Some(digits) = digits_at(text, at) else {
         return Err(Refusal::BadLine);
-    }
-    let frame = frame_in(text, at);
+    };
+    let frame = seven_bytes(digits);
     if frame[6] % 4 != 0 {
         return Err(Refusal::PaddingBits);
     }

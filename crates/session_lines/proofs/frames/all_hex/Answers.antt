@@ -1,24 +1,23 @@
--- `session_lines::frames::all_hex` meets its contract: the test of those passed, and of those to come. Assumes nothing.
-use mathlib.Core.Path.{sym, ap, ◌∙◌}
-use mathlib.Core.Bool.{Bool, ◌&&◌, and_assoc, and-true}
-use Prim.Native.Nat.{◌+◌}
-use native.Mathlib.Omega.{arith}
-use lib.ListN.{drop}
-use Rattle.session_lines.specs.Lines.{all_hex}
-use Rattle.session_lines.proofs.HexDigits.{hex_more, hex_out}
+-- `session_lines::frames::all_hex` meets its contract: the fold tests each. Assumes nothing.
+use mathlib.Core.Path.{◌≡◌, sym, ◌∙◌}
+use mathlib.Core.Bool.{Bool, true, ◌&&◌, and_assoc, and-true}
+use mathlib.Core.List.{List, [], ◌∷◌}
+use Prim.Native.Nat.{ℕ}
+use borrow.Author.Rules.{rules}
+use Rattle.std.specs.List.{fold}
+use Rattle.std.proofs.Common.{tests}
+use Rattle.std.proofs.lemmas.Iterator.{YieldsList-from_slice}
+use Rattle.std.proofs.lemmas.Iterator.Consumers.{fold_from_yields_List}
+use Rattle.session_lines.specs.Lines.{is_hex, all_hex}
 use Rattle.session_lines.proofs.frames.all_hex.Goals as goal
 
-pub loop-i-preserved : goal.loop-i-preserved
-loop-i-preserved c =
-    let turn = c in
-    let L = turn.loop-i in
-    let s = turn.args.digits.now in
-    let rest = all_hex (drop (L.i + 1) s) in
-    let more = hex_more s L.i (omega arith) ∙ ap (λ (b : Bool). b && rest) (sym c.is_hex-all.ensures) in
-    (L.invariant.0, omega arith, L.invariant.2 ∙ ap (λ (b : Bool). L.all && b) more ∙ sym (and_assoc L.all c.is_hex-all.result rest))
+-- the tests of all, after one so far
+folded : (b : Bool) (ds : List ℕ) → fold (λ all c. all && is_hex c) b ds ≡ b && all_hex ds
+unfolding all_hex
+folded b [] = sym (and-true b)
+folded b (c ∷ cs) = folded (b && is_hex c) cs ∙ and_assoc b (is_hex c) (all_hex cs)
 
 pub returns : goal.returns
 returns c =
-    let L = c.loop-i in
-    let s = c.args.digits.now in
-    sym (L.invariant.2 ∙ ap (λ (b : Bool). L.all && b) (hex_out s L.i (omega arith)) ∙ and-true L.all)
+    let ds = c.args.digits.now in
+    fold_from_yields_List _ (λ all c. all && is_hex c) true _ c.fold.ensures.ran (YieldsList-from_slice ds (cc)) (λ a x b q k. search (rules, tests)) ∙ folded true ds

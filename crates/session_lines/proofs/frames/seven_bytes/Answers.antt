@@ -21,7 +21,7 @@ module _ (digits : List ℕ) (h : length digits ≡ 14) where
   byte_is i l = sym (ap (λ (l : List ℕ). get_or l i 0) (hex_at digits 7 h) ∙ cut_at 0 (byte_in digits) 0 7 i l ∙ ap (byte_in digits) (omega arith))
 
 pub loop-i-init : goal.loop-i-init
-loop-i-init c = let s = c in (s.requires.0, s.requires.1, omega arith, refl)
+loop-i-init c = let s = c in (omega arith, s.requires, omega arith, refl)
 
 pub hex_byte-requires : goal.hex_byte-requires
 hex_byte-requires c =
