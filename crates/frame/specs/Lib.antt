@@ -1,2 +1,3 @@
 pub mod Layout
 pub mod Packing
+pub mod Parities

@@ -3,5 +3,6 @@
 
 mod layout;
 mod packing;
+mod parities;
 
 pub use packing::{fresh_sync, pack};

@@ -1,13 +1,13 @@
 -- `frame::layout::four_words` meets its contract: the parts are joined from the first on. Assumes nothing.
 use mathlib.Core.Path.{sym, ◌∙◌}
+use Rattle.bits.proofs.Tests.{T_true}
+use Rattle.sets.proofs.Ranges.{index_ranges}
 use Rattle.frame.proofs.Numbers.{words_value}
 use Rattle.frame.proofs.layout.four_words.Goals as goal
 
-pub returns : goal.returns
-returns c =
-    let s = c in
-    let a = s.args in record {
-      number = c.joined.ensures.number ∙ sym (words_value a.x s.requires.l1_bound.0 s.requires.l1_bound.1 s.requires.l1_bound.2 a.pa a.pb a.pc a.pd s.requires.pa_bound.0 s.requires.pa_bound.1
-          s.requires.pa_bound.2 s.requires.pa_bound.3);
-      bound = c.joined.ensures.bound;
-    }
+pub returns-clause-number : goal.returns-clause-number
+returns-clause-number c =
+    let a = c.args in
+    let p = a.parities in
+    let r = index_ranges a.x (T_true _ c.requires) in
+    c.joined.ensures.number ∙ sym (words_value a.x r.l1 r.g2 r.g1 p.a p.b p.c p.d p.fits.0 p.fits.1 p.fits.2 p.fits.3)
