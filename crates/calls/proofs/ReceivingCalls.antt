@@ -8,7 +8,7 @@ use Rattle.records.specs.declared.Record.{Record}
 use Rattle.calls.specs.Model.{answer_of, ReceiveArguments, receive_kind}
 use Rattle.calls.specs.Calls.{ReceiveCall, receive_order, frame_in, ReceiveStep}
 use Rattle.calls.proofs.PackingCalls.{slice, lent_to_write}
-use Rattle.calls.specs.CodeCalls.{receive_call, Way, by_value, in_place, CodeReceivesBy, CodeReceives}
+use Rattle.calls.specs.CodeCalls.{receive_call, Answered, Leaves, InPlaceSays, Way, by_value, in_place, CodeReceivesBy, CodeReceives}
 
 -- there is such a call of each way for every record, order and frame
 pub receive_had : (way : Way) (given : Record) (x : ReceiveArguments)
@@ -30,10 +30,13 @@ receive_had in_place given x = record {
   observed = refl;
 }
 
+-- the two clauses of the call in place say exactly that
+pub in_place_says : InPlaceSays
+in_place_says M 𝓤 𝓛 κs m run rec bytes order rec' bytes' order' r = (refl, refl)
+
 -- what a call owes: the answer and the record of the definition
 abbrev pub Owed : ReceiveCall receive_kind → Type 0
-Owed c =
-    (c.answer ≡ (receive (receive_order c) c.given (frame_in c)).answer) × (c.left ≡ (receive (receive_order c) c.given (frame_in c)).next)
+Owed c = Answered (receive_order c) c.given (frame_in c) c.answer × Leaves (receive_order c) c.given (frame_in c) c.left
 
 -- whichever way it is made
 pub receive_owes : (way : Way) (c : ReceiveCall receive_kind) → CodeReceivesBy way c → Owed c

@@ -14,10 +14,14 @@ use Rattle.damage.proofs.SoftReturn.{undamaged_alike}
 use Rattle.calls.specs.Model.{answer_of}
 use Rattle.calls.specs.Calls.{ReceiveStep}
 use Rattle.calls.specs.CodeCalls.{Way, by_value, in_place}
-use Rattle.calls.specs.SoftCalls.{SoftCall, plainly, CodeReceivesSoft, SoftReturn, SoftHad}
+use Rattle.calls.specs.SoftCalls.{SoftCall, plainly, SoftAnswered, SoftLeaves, CodeReceivesSoft, SoftInPlaceSays, SoftReturn, SoftHad}
 use Rattle.calls.proofs.Demands.{demand_2}
 use Rattle.calls.proofs.PackingCalls.{slice, lent_to_write, code_packs}
 use Rattle.calls.proofs.Steps.{pack_order_lem, pack_sendable, pack_sent}
+
+-- the two clauses of the call in place say exactly that
+pub soft_in_place_says : SoftInPlaceSays
+soft_in_place_says M 𝓤 𝓛 κs m run rec bytes order confidences rec' bytes' order' confidences' r = (refl, refl)
 
 -- such calls can be had
 module _ (order : List ℕ) (given : Record) (bytes confidences : List ℕ) where
@@ -50,8 +54,7 @@ module _ (order : List ℕ) (given : Record) (bytes confidences : List ℕ) wher
 
 -- what a call owes: the answer and the record of the definition
 abbrev pub SoftOwed : SoftCall → Type 0
-SoftOwed d =
-    (d.answer ≡ (soft_receive d.order d.given d.frame d.confidences).answer) × (d.left ≡ (soft_receive d.order d.given d.frame d.confidences).next)
+SoftOwed d = SoftAnswered d.order d.given d.frame d.confidences d.answer × SoftLeaves d.order d.given d.frame d.confidences d.left
 
 -- whichever way it is made
 pub soft_owes : (way : Way) (d : SoftCall) → CodeReceivesSoft way d → SoftOwed d

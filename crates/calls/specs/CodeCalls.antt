@@ -1,6 +1,13 @@
 -- Calls of the code, as they are observed: each is some call of a function of which its contract holds, by the checker's own reading
--- of its `ensures`.
+-- of its `ensures`; and of a call in place, the equation that each of its clauses is (`ReceivingCalls.in_place_says`).
 use Rattle.std.specs.Prelude.{ℕ, ◌≡◌, Bool, List, Result}
+use seplogic.Ra.Ura.{Ura}
+use prog.Memory.{Memory}
+use prog.Routine.{Routine}
+use base.Logic.{SProp}
+use types.Logic.{Logic}
+use contract.Monad.{Fun}
+use contract.Notation.{connectives}
 use contract.Lifetimes.{Lfts}
 use borrow.Fn.World.{ArgsD, ResD}
 use denote.Triple.Clauses.{AtExit}
@@ -9,6 +16,7 @@ use Rattle.sets.specs.declared.ParameterSet.{ParameterSet}
 use Rattle.frame.specs.contracts.pack as pack
 use Rattle.frame.proofs.pack.Reads as pack-reads
 use Rattle.records.specs.declared.Record.{Record}
+use Rattle.receiver.specs.Receiving.{receive}
 use Rattle.receiver.specs.declared.FrameResult.{FrameResult}
 use Rattle.receiver.specs.contracts.receive as value
 use Rattle.receiver.proofs.receive.Reads as value-reads
@@ -48,6 +56,13 @@ pub record CodeByValue (c : ReceiveCall receive_kind) : Type 0 where
   pub contract : value-reads.Post κs passed gave left
   pub observed : c ≡ receive_call passed.1.1.0.now passed.0 passed.1.0.now gave.answer gave.next
 
+-- what a call owes, and of a call in place what each clause says: the answer, and the record in the caller's memory afterwards
+abbrev pub Answered : List ℕ → Record → List ℕ → Result FrameResult Refusal → Type 0
+Answered order given bytes answer = answer ≡ (receive order given bytes).answer
+
+abbrev pub Leaves : List ℕ → Record → List ℕ → Record → Type 0
+Leaves order given bytes left = left ≡ (receive order given bytes).next
+
 -- one of `receiver::receive_in_place`, by the record in the caller's memory before and afterwards
 pub record CodeInPlace (c : ReceiveCall receive_kind) : Type 0 where
   pub κs : Lfts 3
@@ -67,3 +82,12 @@ CodeReceivesBy in_place c = CodeInPlace c
 
 abbrev pub CodeReceives : ReceiveCall receive_kind → Type 0
 CodeReceives c = (way : Way) × CodeReceivesBy way c
+
+-- that the two clauses of the call in place are those equations, of the record, the frame and the order at entry and of the record at exit
+abbrev pub InPlaceSays : Type 2
+InPlaceSays = (M : Type 1) (𝓤 : Ura M) (𝓛 : Logic 𝓤) (κs : Lfts 3) (m : Memory → SProp 𝓤) (run : Routine → Fun 𝓤)
+    (rec : _) (bytes : _) (order : _) (rec' : _) (bytes' : _) (order' : _) (r : _)
+    → (place.ensures-answer 𝓛 κs m run rec bytes order rec' bytes' order' r
+    ≡ (connectives 𝓤).⌜◌⌝ (Answered order'.entry.now rec'.entry.now bytes'.entry.now r))
+    × (place.ensures-record 𝓛 κs m run rec bytes order rec' bytes' order' r
+    ≡ (connectives 𝓤).⌜◌⌝ (Leaves order'.entry.now rec'.entry.now bytes'.entry.now rec'.exit.now))

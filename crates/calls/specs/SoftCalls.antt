@@ -1,6 +1,13 @@
 -- Document 02, T-05: receiving calls with confidences as they are observed, and what is claimed of those of the code. Each is some call of a function of
 -- which its contract holds, as in `CodeCalls`. Demand 3's lists are about calls without confidences and have none of these.
 use Rattle.std.specs.Prelude.{ℕ, ◌<◌, ◌≡◌, List, T, length, Result, None}
+use seplogic.Ra.Ura.{Ura}
+use prog.Memory.{Memory}
+use prog.Routine.{Routine}
+use base.Logic.{SProp}
+use types.Logic.{Logic}
+use contract.Monad.{Fun}
+use contract.Notation.{connectives}
 use contract.Lifetimes.{Lfts}
 use borrow.Fn.World.{ArgsD, ResD}
 use denote.Triple.Clauses.{AtExit}
@@ -8,6 +15,7 @@ use Rattle.refusal.specs.declared.Refusal.{Refusal}
 use Rattle.bits.specs.Lists.{Every}
 use Rattle.records.specs.Records.{valid}
 use Rattle.records.specs.declared.Record.{Record}
+use Rattle.receiver.specs.SoftReceiving.{soft_receive}
 use Rattle.receiver.specs.declared.FrameResult.{FrameResult}
 use Rattle.receiver.specs.contracts.receive_soft as value
 use Rattle.receiver.proofs.receive_soft.Reads as value-reads
@@ -48,6 +56,13 @@ pub record SoftByValue (d : SoftCall) : Type 0 where
     left = gave.next;
   }
 
+-- what a call owes, and of a call in place what each clause says: the answer, and the record in the caller's memory afterwards
+abbrev pub SoftAnswered : List ℕ → Record → List ℕ → List ℕ → Result FrameResult Refusal → Type 0
+SoftAnswered order given bytes confidences answer = answer ≡ (soft_receive order given bytes confidences).answer
+
+abbrev pub SoftLeaves : List ℕ → Record → List ℕ → List ℕ → Record → Type 0
+SoftLeaves order given bytes confidences left = left ≡ (soft_receive order given bytes confidences).next
+
 -- one of `receiver::receive_soft_in_place`, by the record in the caller's memory before and afterwards
 pub record SoftInPlace (d : SoftCall) : Type 0 where
   pub κs : Lfts 4
@@ -68,6 +83,15 @@ pub record SoftInPlace (d : SoftCall) : Type 0 where
 abbrev pub CodeReceivesSoft : Way → SoftCall → Type 0
 CodeReceivesSoft by_value d = SoftByValue d
 CodeReceivesSoft in_place d = SoftInPlace d
+
+-- that the two clauses of the call in place are those equations
+abbrev pub SoftInPlaceSays : Type 2
+SoftInPlaceSays = (M : Type 1) (𝓤 : Ura M) (𝓛 : Logic 𝓤) (κs : Lfts 4) (m : Memory → SProp 𝓤) (run : Routine → Fun 𝓤)
+    (rec : _) (bytes : _) (order : _) (confidences : _) (rec' : _) (bytes' : _) (order' : _) (confidences' : _) (r : _)
+    → (place.ensures-answer 𝓛 κs m run rec bytes order confidences rec' bytes' order' confidences' r
+    ≡ (connectives 𝓤).⌜◌⌝ (SoftAnswered order'.entry.now rec'.entry.now bytes'.entry.now confidences'.entry.now r))
+    × (place.ensures-record 𝓛 κs m run rec bytes order confidences rec' bytes' order' confidences' r
+    ≡ (connectives 𝓤).⌜◌⌝ (SoftLeaves order'.entry.now rec'.entry.now bytes'.entry.now confidences'.entry.now rec'.exit.now))
 
 -- what is claimed: the undamaged frame of any set that a sender takes comes back as itself in the order that it was packed in, with any 54 confidences
 -- above 0 and from any valid record
