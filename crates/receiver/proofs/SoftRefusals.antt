@@ -1,8 +1,8 @@
 -- Which calls with confidences are refused, and what the others give, in any order of the bits.
 -- Assumes nothing.
-use mathlib.Core.Path.{◌≡◌, refl, sym, ap, ◌∙◌}
+use mathlib.Core.Path.{◌≡◌, refl, sym, ap, ap₂, ◌∙◌}
 use mathlib.Core.Bool.{Bool, true, false, not}
-use mathlib.Core.List.{List, [], ◌∷◌, ◌++◌}
+use mathlib.Core.List.{List, [], ◌∷◌, ◌++◌, append_assoc}
 use Prim.Native.Nat.{ℕ}
 use lib.Dec.{T, eqb}
 use lib.ListN.{length}
@@ -10,7 +10,7 @@ use borrow.Author.Tests.{eqb-true}
 use Rattle.std.specs.Prelude.{Option, None, Some}
 use Rattle.refusal.specs.Refusals.{first_refusal}
 use Rattle.refusal.specs.declared.Refusal.{Refusal}
-use Rattle.refusal.specs.declared.Refusal.TheVariants.{ConfidenceCount}
+use Rattle.refusal.specs.declared.Refusal.TheVariants.{InvalidRecord, ConfidenceCount}
 use Rattle.refusal.proofs.Refusals.{first_append, append_none}
 use Rattle.order.specs.Order.{logical_bit, frame_table, frame_refusal}
 use Rattle.order.specs.SoftTaking.{confidence_of, confidence_table}
@@ -43,6 +43,14 @@ module _ (ord : List ℕ) (r : Record) (bytes confidences : List ℕ) where
   -- where neither is, the record decides
   pub taking_passes : taken_refusal ≡ None → soft_refusal ord r bytes confidences ≡ first_refusal (record_table r)
   taking_passes e = passes (frame_table ord bytes ++ confidence_table confidences) (record_table r) e
+
+  -- where the frame is taken, the number of confidences decides, and then the record
+  pub soft_decides : (b v : Bool) → frame_refusal ord bytes ≡ None → eqb (length confidences) 54 ≡ b → valid r ≡ v
+      → soft_refusal ord r bytes confidences ≡ first_refusal ((not b, ConfidenceCount) ∷ (not v, InvalidRecord) ∷ [])
+  soft_decides b v e c d =
+      ap first_refusal (append_assoc (frame_table ord bytes) (confidence_table confidences) (record_table r))
+      ∙ passes (frame_table ord bytes) (confidence_table confidences ++ record_table r) e
+      ∙ ap₂ (λ (s t : Bool). first_refusal ((not s, ConfidenceCount) ∷ (not t, InvalidRecord) ∷ [])) c d
 
   -- no others are let through
   pub soft_taken_only : soft_refusal ord r bytes confidences ≡ None → (frame_refusal ord bytes ≡ None) × (length confidences ≡ 54) × T (valid r)
