@@ -1,13 +1,11 @@
--- Parts of the logical bits carried in one number: a part is a shift and a remainder, and the Fourier index is joined from three.
+-- Parts of the logical bits carried in one number: a part is a shift and a remainder.
 -- Assumes nothing.
-use mathlib.Core.Path.{◌≡◌, refl, sym, ap, ◌∙◌}
+use mathlib.Core.Path.{◌≡◌, sym, ap, ◌∙◌}
 use mathlib.Core.Bool.{Bool}
-use mathlib.Core.List.{◌++◌}
 use Prim.Native.Nat.{ℕ, ◌+◌, ◌*◌, ◌/◌, ◌%◌, ◌^◌, ◌<◌}
 use native.Mathlib.Nat.{mod-eq_of_lt, one-mul}
 use lib.Pow.{pow-lt}
 use Rattle.bits.specs.Bits.{value, bits, cut, carried}
-use Rattle.bits.proofs.Value.{value_join}
 use Rattle.bits.proofs.Cut.{cut_length}
 use Rattle.bits.proofs.Digits.{bits_value}
 use Rattle.bits.proofs.Numbers.{carried_part}
@@ -24,10 +22,3 @@ module _ (g : ℕ → Bool) where
   -- the bits of the number that a part stands for are that part
   pub bits_back : (a k x : ℕ) → x ≡ value (cut g a k) → bits k x ≡ cut g a k
   bits_back a k x e = ap (bits k) e ∙ bits_value k (cut g a k) (cut_length g a k)
-
-  -- the Fourier index from its three parts
-  pub fourier_is : (x y z : ℕ) → x ≡ value (cut g 11 3) → y ≡ value (cut g 18 3) → z ≡ value (cut g 25 2)
-      → x * 32 + (y * 4 + z) ≡ value (cut g 11 3 ++ (cut g 18 3 ++ cut g 25 2))
-  fourier_is x y z ex ey ez =
-      sym (value_join (cut g 11 3) (cut g 18 3 ++ cut g 25 2) 5 x (y * 4 + z) refl (sym ex)
-      (value_join (cut g 18 3) (cut g 25 2) 2 y z refl (sym ey) (sym ez)))
