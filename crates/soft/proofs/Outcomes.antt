@@ -29,10 +29,12 @@ use Rattle.soft.proofs.Bounds.{chosen_lt}
 -- past k numbers in front, the rest of sixteen
 past_at : (front : List ℕ) (k u : ℕ) → length front ≡ k → k ≤ u → u < 16 → get_or (front ++ drop k (replicate 16 65535)) u 0 ≡ 65535
 past_at front k u e h b =
-    let there : u ≡ length front + (u - k) = omega arith in
-    let same : k + (u - k) ≡ u = omega arith in
-    ap (λ (j : ℕ). get_or (front ++ drop k (replicate 16 65535)) j 0) there ∙ get_or-append-add front (drop k (replicate 16 65535)) (u - k) 0
-    ∙ get_or-drop k (replicate 16 65535) (u - k) 0 ∙ ap (λ (j : ℕ). get_or (replicate 16 65535) j 0) same ∙ get_or-replicate 16 u 65535 0 b
+    let rest : List ℕ = replicate 16 65535 in
+    let there : get_or (front ++ drop k rest) u 0 ≡ get_or (front ++ drop k rest) (length front + (u - k)) 0 =
+    ap (λ (j : ℕ). get_or (front ++ drop k rest) j 0) (omega arith) in
+    let same : get_or rest (k + (u - k)) 0 ≡ get_or rest u 0 = ap (λ (j : ℕ). get_or rest j 0) (omega arith) in
+    let inside : get_or (drop k rest) (u - k) 0 ≡ 65535 = get_or-drop k rest (u - k) 0 ∙ (same ∙ get_or-replicate 16 u 65535 0 b) in
+    there ∙ (get_or-append-add front (drop k rest) (u - k) 0 ∙ inside)
 
 module _ (n : ℕ) (l : 6 ≤ n) (m : n ≤ 8) (q : List ℕ) (w : List Bool) (hw : length w ≡ n) (fit : PricesFit n q w) where
   abbrev prices : List ℕ
