@@ -2,13 +2,11 @@
 use mathlib.Core.Path.{◌≡◌, refl}
 use mathlib.Core.Bool.{Bool, true, false, ◌&&◌, ◌||◌, and-eq-true_iff}
 use mathlib.Core.List.{List, [], ◌∷◌}
-use Prim.Native.Nat.{ℕ, zero, suc, ◌+◌, ◌≤◌, ◌<◌}
+use Prim.Native.Nat.{ℕ, zero, suc, ◌≤◌, ◌<◌}
 use native.Mathlib.Nat.{not-suc-le-zero, le_of_suc-le-suc}
-use native.Mathlib.Numerals.{add-one}
 use native.Mathlib.Omega.{arith}
 use lib.Dec.{T, leb, eqb, leb→le, eqb→eq}
-use lib.ListN.{length, get_or, drop, drop_of_length-le}
-use lib.Seq.{drop-cons}
+use lib.ListN.{length, get_or}
 use borrow.Author.Tests.{leb-true}
 use Rattle.bits.specs.Lists.{Every}
 use Rattle.bits.proofs.Tests.{and_left, and_right, true_T, implies, implies_at, every_at, equal_at}
@@ -61,13 +59,3 @@ hex_digit_at (c ∷ cs) (suc i) e h = hex_digit_at cs i (hex_parts c cs e).1 (le
 pub hex_plain : (ds : List ℕ) → all_hex ds ≡ true → Every (λ b. b ≡ 10 → ⊥) ds
 hex_plain [] e = tt
 hex_plain (c ∷ cs) e = let p = hex_parts c cs e in (λ q. omega (arith, (hex_bounds c p.0).0), hex_plain cs p.1)
-
--- a test of the bytes from i on is a test of the one at i and of those after it
-pub hex_more : (ds : List ℕ) (i : ℕ) → i < length ds → all_hex (drop i ds) ≡ is_hex (get_or ds i 0) && all_hex (drop (i + 1) ds)
-unfolding all_hex
-hex_more ds i h = rw (add-one, drop-cons ds i 0 h) refl
-
--- where no byte is left, nothing but digits is left
-pub hex_out : (ds : List ℕ) (i : ℕ) → length ds ≤ i → all_hex (drop i ds) ≡ true
-unfolding all_hex
-hex_out ds i h = rw (drop_of_length-le ds h) refl

@@ -19,12 +19,6 @@ begins_is (b ∷ bs) (c ∷ cs) e =
     let p = (and-eq-true_iff (eqb b c) (begins bs cs)).0 e in
     λ i. sym (eqb-true b c p.0) i ∷ begins_is bs cs p.1 i
 
--- bytes and anything after them begin with these bytes
-pub begins_append : (w rest : List ℕ) → begins w (w ++ rest) ≡ true
-unfolding begins
-begins_append [] rest = refl
-begins_append (b ∷ bs) rest = rw (eq-eqb b b refl) (begins_append bs rest)
-
 -- to begin with bytes and others is to begin with the first and then with the others
 pub begins_join : (v w t : List ℕ) → begins (v ++ w) t ≡ begins v t && begins w (drop (length v) t)
 unfolding begins
