@@ -41,8 +41,9 @@ fn seven_bytes(digits: &[u8; 14]) -> [u8; 7]
     ensures { result ≡ hex_bytes digits.now }
 {
     let mut frame = [0u8; 7];
-    for i in 0..7 {
-        frame[i] = hex_byte(digits[2 * i], digits[2 * i + 1]);
+    let (pairs, _) = digits.as_chunks::<2>();
+    for (i, [high, low]) in pairs.iter().enumerate() {
+        frame[i] = hex_byte(*high, *low);
     }
     frame
 }
