@@ -1,7 +1,7 @@
 -- Receiving calls of the code, by value and in place: what the toolchain reads in the contracts of `receiver::receive` and
 -- `receiver::receive_in_place` is the model's step.
 -- Assumes nothing.
-use mathlib.Core.Path.{◌≡◌, refl, subst⁻¹}
+use mathlib.Core.Path.{refl, subst⁻¹}
 use mathlib.Core.List.{[]}
 use Rattle.receiver.specs.Receiving.{receive}
 use Rattle.records.specs.declared.Record.{Record}

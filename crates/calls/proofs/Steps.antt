@@ -55,7 +55,7 @@ answer_back (Ok y) x e = grind arith
 answer_back (Err f) x e = grind arith
 
 module _ {P : PackKind} (c : PackCall P) (k : PackStep c) where
-  -- a packing call by the number that refuses it
+  -- a packing call by what refuses it
   pack_outcome_is : (n : Option Refusal) → pack_call_refusal c ≡ n → pack_outcome c ≡ pack_unless n (pack_order c) c.given (set_in c)
   pack_outcome_is n e =
       let by_kind : pack_outcome c ≡ pack_unless (pack_call_refusal c) (pack_order c) c.given (set_in c) = k.outcome in
@@ -82,7 +82,7 @@ module _ {P : PackKind} (c : PackCall P) (k : PackStep c) where
     pack_sent = sym (bytes_back c.answer (sent c)) ∙ ap (λ (y : Outcome (List ℕ) Bool). value_or (sent c) y.answer) (pack_outcome_is None e)
 
 module _ {R : ReceiveKind} (c : ReceiveCall R) (k : ReceiveStep c) where
-  -- a receiving call by the number that refuses it
+  -- a receiving call by what refuses it
   receive_outcome_is : (n : Option Refusal) → receive_call_refusal c ≡ n → receive_outcome c ≡ outcome_of (receive_unless n (receive_order c) c.given (frame_in c))
   receive_outcome_is n e =
       let by_kind : receive_outcome c ≡ outcome_of (receive_unless (receive_call_refusal c) (receive_order c) c.given (frame_in c)) = k in

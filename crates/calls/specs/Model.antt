@@ -1,5 +1,5 @@
 -- Document 01, "Lists of calls": the reference model, document 01's reckoning. It is fed the calls' arguments alone and keeps a state of its own.
--- It takes the kind of call: another kind may be passed more, and have refusals of its own.
+-- It takes the kind of call: another kind may be passed more, and refuse more.
 use Rattle.std.specs.Prelude.{ℕ, ◌≡◌, Bool, not, List, [], ◌∷◌, length, Option, None, Some, Result, Ok, Err}
 use Rattle.refusal.specs.Refusals.{number_of}
 use Rattle.refusal.specs.declared.Refusal.{Refusal}
