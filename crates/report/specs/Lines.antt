@@ -65,5 +65,8 @@ unfoldable pub frame_line : ℕ → Result FrameResult Refusal → List ℕ
 frame_line k answer = field "frame=" (decimal k) ++ answer_text answer ++ ascii "\n"
 
 -- the last line: how many frames, how many of them repeats, how many bytes after the last whole frame
+abbrev pub counts : ℕ → ℕ → ℕ → List ℕ
+counts frames repeats left = field "frames=" (decimal frames) ++ field " repeats=" (decimal repeats) ++ field " left=" (decimal left)
+
 unfoldable pub last_line : ℕ → ℕ → ℕ → List ℕ
-last_line frames repeats left = field "frames=" (decimal frames) ++ field " repeats=" (decimal repeats) ++ field " left=" (decimal left) ++ ascii "\n"
+last_line frames repeats left = counts frames repeats left ++ ascii "\n"

@@ -1,10 +1,10 @@
-// The parts of a frame's line, each put where there is room for it, and how long it gets.
-ghost use Rattle.std.specs.Prelude.{◌≡◌, ◌≤◌, [], ◌∷◌, ◌++◌, length, set};
+// The parts of a frame's line, and how long each gets.
+ghost use Rattle.std.specs.Prelude.{◌≡◌, [], ◌∷◌, ◌++◌, set};
 ghost use Rattle.text.specs.Text.{ascii, decimal, field};
-ghost use Rattle.text.specs.Placing.{PutIfRoom};
+ghost use Rattle.report.specs.Adding.{Adds};
 ghost use Rattle.report.specs.Lines.{letter, flag, pitch_text, lsf_text, set_text, result_text};
 
-use crate::parts::{put_byte, put_name, put_number};
+use crate::line::Line;
 use receiver::{FrameResult, Kind};
 use sets::{Indices, ParameterSet};
 use text::Name;
@@ -58,64 +58,56 @@ fn with_letter(mut name: Name, letter: u8) -> Name
 }
 
 // The four LSF indices.
-fn write_lsf(x: Indices, line: &mut [u8], at: usize) -> usize
-    ensures put { PutIfRoom line.old at (lsf_text x) line.new result }
-    ensures bound { length (lsf_text x) ≤ 20 }
+fn write_lsf(line: &mut Line, x: Indices)
+    ensures { Adds line.old (lsf_text x) 20 line.new }
 {
-    let comma = COMMA;
-    let mut end = put_byte(LSF, 5, x.l1, line, at);
-    end = put_byte(comma, 1, x.l2, line, end);
-    end = put_byte(comma, 1, x.l3, line, end);
-    put_byte(comma, 1, x.l4, line, end)
+    line.byte(LSF, 5, x.l1);
+    line.byte(COMMA, 1, x.l2);
+    line.byte(COMMA, 1, x.l3);
+    line.byte(COMMA, 1, x.l4);
 }
 
 // The kind's letter, and the pitch: a dash where there is none.
-fn write_pitch(letter: u8, set: ParameterSet, line: &mut [u8], at: usize) -> usize
-    ensures put { PutIfRoom line.old at (field " kind=" (letter ∷ []) ++ pitch_text set) line.new result }
-    ensures bound { length (field " kind=" (letter ∷ []) ++ pitch_text set) ≤ 17 }
+fn write_pitch(line: &mut Line, letter: u8, set: ParameterSet)
+    ensures { Adds line.old (field " kind=" (letter ∷ []) ++ pitch_text set) 17 line.new }
 {
     let name = with_letter(PITCH, letter);
     match set {
-        ParameterSet::Unvoiced(_) => put_name(name, 15, line, at),
-        ParameterSet::Voiced(_, v) => put_byte(name, 14, v.pitch, line, at),
+        ParameterSet::Unvoiced(_) => line.name(name, 15),
+        ParameterSet::Voiced(_, v) => line.byte(name, 14, v.pitch),
     }
 }
 
 // The kind's letter and the set: dashes for the bandpass, Fourier and aperiodic codes where there are none.
-fn write_set(letter: u8, set: ParameterSet, line: &mut [u8], at: usize) -> usize
-    ensures put { PutIfRoom line.old at (field " kind=" (letter ∷ []) ++ set_text set) line.new result }
-    ensures bound { length (field " kind=" (letter ∷ []) ++ set_text set) ≤ 58 }
+fn write_set(line: &mut Line, letter: u8, set: ParameterSet)
+    ensures { Adds line.old (field " kind=" (letter ∷ []) ++ set_text set) 58 line.new }
 {
-    let mut end = write_pitch(letter, set, line, at);
-    end = write_lsf(sets::indices_of(set), line, end);
+    write_pitch(line, letter, set);
+    write_lsf(line, sets::indices_of(set));
     match set {
-        ParameterSet::Unvoiced(_) => put_name(UNVOICED, 15, line, end),
+        ParameterSet::Unvoiced(_) => line.name(UNVOICED, 15),
         ParameterSet::Voiced(_, v) => {
-            end = put_byte(BANDPASS, 4, v.bandpass, line, end);
-            end = put_byte(FOURIER, 4, v.fourier, line, end);
-            put_byte(APERIODIC, 4, v.aperiodic, line, end)
+            line.byte(BANDPASS, 4, v.bandpass);
+            line.byte(FOURIER, 4, v.fourier);
+            line.byte(APERIODIC, 4, v.aperiodic);
         }
     }
 }
 
 // The sync bit, the repaired count and mute, and the line end.
-fn write_state(sync: bool, repaired: u8, mute: bool, line: &mut [u8], at: usize) -> usize
-    ensures put { PutIfRoom line.old at (field " sync=" (flag sync) ++ (field " fixed=" (decimal repaired) ++ (field " mute=" (flag mute) ++ ascii "\n"))) line.new result }
-    ensures bound { length (field " sync=" (flag sync) ++ (field " fixed=" (decimal repaired) ++ (field " mute=" (flag mute) ++ ascii "\n"))) ≤ 25 }
+fn write_state(line: &mut Line, sync: bool, repaired: u8, mute: bool)
+    ensures { Adds line.old (field " sync=" (flag sync) ++ (field " fixed=" (decimal repaired) ++ (field " mute=" (flag mute) ++ ascii "\n"))) 25 line.new }
 {
-    let end = put_byte(with_letter(FIXED, flag_of(sync)), 14, repaired, line, at);
-    put_name(with_letter(MUTE, flag_of(mute)), 8, line, end)
+    line.byte(with_letter(FIXED, flag_of(sync)), 14, repaired);
+    line.name(with_letter(MUTE, flag_of(mute)), 8);
 }
 
 // A result, to the line end: kind, set and levels, and what follows them.
-pub(crate) fn write_result(res: FrameResult, line: &mut [u8], at: usize) -> usize
-    ensures put { PutIfRoom line.old at (result_text res ++ ascii "\n") line.new result }
-    ensures bound { length (result_text res ++ ascii "\n") ≤ 111 }
+pub(crate) fn write_result(line: &mut Line, res: FrameResult)
+    ensures { Adds line.old (result_text res ++ ascii "\n") 111 line.new }
 {
-    let kind = res.kind;
-    let set = res.set;
-    let mut end = write_set(letter_of(kind), set, line, at);
-    end = put_number(FIRST, 4, u64::from(res.first), line, end);
-    end = put_number(SECOND, 4, u64::from(res.second), line, end);
-    write_state(res.sync, res.repaired, res.mute, line, end)
+    write_set(line, letter_of(res.kind), res.set);
+    line.number(FIRST, 4, u64::from(res.first));
+    line.number(SECOND, 4, u64::from(res.second));
+    write_state(line, res.sync, res.repaired, res.mute);
 }

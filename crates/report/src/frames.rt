@@ -1,10 +1,11 @@
 // The line of a frame.
 ghost use Rattle.std.specs.Prelude.{◌≡◌, ◌≤◌, length};
 ghost use Rattle.text.specs.Placing.{place_answer, place_writes, PutIfRoom};
+ghost use Rattle.report.specs.Adding.{Adds};
 ghost use Rattle.report.specs.Lines.{frame_line};
 
 use crate::fields::write_result;
-use crate::parts::{put_byte, put_name, put_number};
+use crate::line::Line;
 use receiver::FrameResult;
 use refusal::Refusal;
 use text::Name;
@@ -16,18 +17,27 @@ const REFUSED: Name = *b" refused=.......";
 const END: Name = *b"\n...............";
 
 // The whole line.
-fn write_frame(k: u64, answer: Result<FrameResult, Refusal>, line: &mut [u8], at: usize) -> usize
-    ensures put { PutIfRoom line.old at (frame_line k answer) line.new result }
-    ensures bound { length (frame_line k answer) ≤ 144 }
+fn write_frame(line: &mut Line, k: u64, answer: Result<FrameResult, Refusal>)
+    ensures { Adds line.old (frame_line k answer) 144 line.new }
 {
-    let number = put_number(FRAME, 6, k, line, at);
+    line.number(FRAME, 6, k);
     match answer {
-        Ok(result) => write_result(result, line, number),
+        Ok(result) => write_result(line, result),
         Err(refusal) => {
-            let end = put_byte(REFUSED, 9, refusal.number(), line, number);
-            put_name(END, 1, line, end)
+            line.byte(REFUSED, 9, refusal.number());
+            line.name(END, 1);
         }
     }
+}
+
+// The same in a lent buffer from `at` on; where it ends.
+fn put_frame(k: u64, answer: Result<FrameResult, Refusal>, out: &mut [u8], at: usize) -> usize
+    ensures put { PutIfRoom out.old at (frame_line k answer) out.new result }
+    ensures bound { length (frame_line k answer) ≤ 144 }
+{
+    let mut line = Line { out, end: at };
+    write_frame(&mut line, k, answer);
+    line.end
 }
 
 // The line of frame k, to `at` and on; it has at most 144 bytes. Refused: the buffer ends before the line.
@@ -42,9 +52,9 @@ pub fn frame_line(
     ensures bound { length (frame_line k answer) ≤ 144 }
 {
     if out.len() >= 144 && at <= out.len() - 144 {
-        return Ok(write_frame(k, answer, out, at));
+        return Ok(put_frame(k, answer, out, at));
     }
     let mut line = [0u8; 144];
-    let end = write_frame(k, answer, &mut line, 0);
+    let end = put_frame(k, answer, &mut line, 0);
     text::place(&line[..end], out, at)
 }

@@ -3,12 +3,12 @@
 //   frames   the line of a frame
 //   summary  the first and the last line of a call
 //   fields   the parts of a frame's line
-//   parts    one part of a line
+//   line     a line in a lent buffer, and its parts
 #![tactic(auto)]
 
 mod fields;
 mod frames;
-mod parts;
+mod line;
 mod summary;
 
 pub use frames::frame_line;

@@ -1,9 +1,9 @@
 // The first and the last line of a call. The last is built in a buffer of line ends, so that its own stands after it.
 ghost use Rattle.std.specs.Prelude.{◌≡◌, ◌≤◌, length};
-ghost use Rattle.text.specs.Placing.{place_answer, place_writes};
-ghost use Rattle.report.specs.Lines.{first_line, last_line};
+ghost use Rattle.text.specs.Placing.{place_answer, place_writes, PutIfRoom};
+ghost use Rattle.report.specs.Lines.{counts, first_line, last_line};
 
-use crate::parts::put_number;
+use crate::line::Line;
 use refusal::Refusal;
 use text::Name;
 
@@ -34,8 +34,18 @@ pub fn last_line(
     ensures bound { length (last_line frames repeats left) ≤ 144 }
 {
     let mut line = [b'\n'; 144];
-    let mut end = put_number(FRAMES, 7, frames, &mut line, 0);
-    end = put_number(REPEATS, 9, repeats, &mut line, end);
-    end = put_number(LEFT, 6, left, &mut line, end);
+    let end = put_counts(frames, repeats, left, &mut line);
     text::place(&line[..end + 1], out, at)
+}
+
+// The three counts at the front of a lent buffer; where they end.
+fn put_counts(frames: u64, repeats: u64, left: u64, out: &mut [u8]) -> usize
+    ensures put { PutIfRoom out.old 0 (counts frames repeats left) out.new result }
+    ensures bound { length (counts frames repeats left) ≤ 82 }
+{
+    let mut line = Line { out, end: 0 };
+    line.number(FRAMES, 7, frames);
+    line.number(REPEATS, 9, repeats);
+    line.number(LEFT, 6, left);
+    line.end
 }

@@ -2,18 +2,16 @@
 use mathlib.Core.List.{[], ◌∷◌, ◌++◌}
 use lib.Dec.{lit≤}
 use Rattle.text.specs.Text.{ascii, field}
-use Rattle.text.proofs.Parts.{part_within}
+use Rattle.report.proofs.Adding.{adds_within}
 use Rattle.report.proofs.fields.write_pitch.Goals as goal
 
 pub returns-in-Unvoiced : goal.returns-in-Unvoiced
 returns-in-Unvoiced c =
-    let a = c.args in
-    let text = field " kind=" (a.letter ∷ []) ++ ascii " pitch=-" in
-    let e = rw c.with_letter-name.ensures at c.put_name.ensures in
-    let p = part_within a.line.now _ a.at _ 15 17 text (lit≤ tt) (e.put, e.bound) in
-    rw c.in-Unvoiced.is (record { put = p.0; bound = p.1 })
+    let text = field " kind=" (c.args.letter ∷ []) ++ ascii " pitch=-" in
+    let e = rw c.with_letter-name.ensures at c.name.ensures in
+    rw c.in-Unvoiced.is (adds_within 17 {xs = text} (lit≤ tt) e)
 
 pub returns-in-Voiced : goal.returns-in-Voiced
 returns-in-Voiced c =
-    let e = rw c.with_letter-name.ensures at c.put_byte.ensures in
-    rw c.in-Voiced.is (record { put = e.put; bound = e.bound })
+    let e = rw c.with_letter-name.ensures at c.byte.ensures in
+    rw c.in-Voiced.is e

@@ -8,35 +8,35 @@ use Rattle.text.proofs.Answers.{room_owes}
 use Rattle.report.specs.Lines.{frame_line}
 use Rattle.text.proofs.Parts.{line_end_le, line_owes}
 use Rattle.report.proofs.frames.frame_line.Goals as goal
-use Rattle.report.proofs.frames.frame_line.Goals.{After-write_frame-end}
+use Rattle.report.proofs.frames.frame_line.Goals.{After-put_frame-end}
 
 pub returns-then-at-out : goal.returns-then-at-out
 returns-then-at-out c =
     let a = c.args in
     let line = frame_line a.k a.answer in
-    let e = c.write_frame.ensures in
+    let e = c.put_frame.ensures in
     let room : a.at + length line ≤ length a.out.now = omega (arith, e.bound, c.if-at-out.true, c.if-out-ge144.true) in
     let o = room_owes line a.at a.out.now _ _ room (e.put room) in
     record { answer = o.0; written = o.1; bound = e.bound }
 
 -- the line ends within its buffer
-ends : (c : After-write_frame-end) → c.write_frame-end.result ≤ length c.write_frame-end.new.line
+ends : (c : After-put_frame-end) → c.put_frame-end.result ≤ length c.put_frame-end.new.out
 ends c =
-    let w = c.write_frame-end.ensures in
+    let w = c.put_frame-end.ensures in
     let e = line_end_le (replicate 144 0) _ (frame_line c.args.k c.args.answer) _ 144 (w.put, w.bound) (omega arith) in
-    omega (arith, e, c.write_frame-end.auto.line)
+    omega (arith, e, c.put_frame-end.auto.out)
 
 pub slice_bounds-line-end : goal.slice_bounds-line-end
-slice_bounds-line-end c = ends (goal.at.slice_bounds-line-end c).After-write_frame-end
+slice_bounds-line-end c = ends (goal.at.slice_bounds-line-end c).After-put_frame-end
 
 pub slice_bounds-place-end : goal.slice_bounds-place-end
-slice_bounds-place-end c = sym (length-take-le _ _ (ends (goal.at.slice_bounds-place-end c).After-write_frame-end))
+slice_bounds-place-end c = sym (length-take-le _ _ (ends (goal.at.slice_bounds-place-end c).After-put_frame-end))
 
 pub returns : goal.returns
 returns c =
     let a = c.args in
     let line = frame_line a.k a.answer in
-    let w = c.write_frame-end.ensures in
+    let w = c.put_frame-end.ensures in
     let p = c.place.ensures in
     let o = line_owes (replicate 144 0) _ line _ 144 (w.put, w.bound) (omega arith) a.out.now _ a.at _ (p.answer, p.written) in
     record { answer = o.0; written = o.1; bound = w.bound }
