@@ -48,12 +48,3 @@ lsf_row_handed codebook stage index r h i e =
     let t = lt-ltb index (stage_rows stage) i in
     let w = eq-eqb (length codebook) lsf_size h in
     row_handed _ _ r (lsf_row_length codebook stage index h i) (simp (t, w) at e)
-
--- and where it is of magnitudes
-pub magnitude_row_handed : (codebook : List ℤ) (index : ℕ) (r : List ℤ) → length codebook ≡ magnitude_size → index < 256
-    → r ≡ row_unless (magnitude_row_refusal codebook index) (magnitude_row codebook index)
-    → HandedRow (magnitude_row codebook index) (all_fit magnitude_fits (magnitude_row codebook index)) r
-magnitude_row_handed codebook index r h i e =
-    let t = lt-ltb index 256 i in
-    let w = eq-eqb (length codebook) magnitude_size h in
-    row_handed _ _ r (magnitude_row_length codebook index h i) (simp (t, w) at e)

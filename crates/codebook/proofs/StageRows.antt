@@ -16,28 +16,6 @@ rows_none n =
     let stage = suc (suc (suc (suc (suc n)))) in
     rw (ne_eqb stage 1 (λ e. omega arith), le-leb 2 stage (omega arith), lt-leb stage 4 (omega arith)) refl
 
--- no row stands before stage 1
-pub start_first : (stage : ℕ) → stage < 2 → stage_start stage ≡ 0
-unfolding stage_start
-start_first zero h = refl
-start_first (suc zero) h = refl
-start_first (suc (suc n)) h = absurd (omega arith)
-
--- before the fifth stage, and any past it, stand all 320 rows
-start_beyond : (n : ℕ) → stage_start (suc (suc (suc (suc (suc n))))) ≡ 320
-unfolding stage_start
-start_beyond zero = refl
-start_beyond (suc n) = omega (arith, start_beyond n, rows_none n)
-
--- past the four stages all rows stand before
-pub start_past : (stage : ℕ) → 4 < stage → stage_start stage ≡ 320
-start_past zero h = absurd (omega arith)
-start_past (suc zero) h = absurd (omega arith)
-start_past (suc (suc zero)) h = absurd (omega arith)
-start_past (suc (suc (suc zero))) h = absurd (omega arith)
-start_past (suc (suc (suc (suc zero)))) h = absurd (omega arith)
-start_past (suc (suc (suc (suc (suc n))))) h = start_beyond n
-
 -- a row of a stage is one of the 320
 pub row_lt : (stage index : ℕ) → index < stage_rows stage → stage_start stage + index < 320
 unfolding stage_start

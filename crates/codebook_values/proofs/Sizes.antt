@@ -28,10 +28,6 @@ abs_fits z h = record { sfits = omega (arith, mag_le z) }
 pub number_back : (z : ℤ) → mag z < 2 ^ 63 → to_z w64 (of_z w64 z) ≡ z
 number_back z h = to_z-of_z w64 z (record { sfits = h })
 
--- and a test of two such numbers is one of what is read back
-pub test_back : {x y : ℤ} {t : Bool} → SFits w64 x → SFits w64 y → lt_z (to_z w64 (of_z w64 x)) (to_z w64 (of_z w64 y)) ≡ t → lt_z x y ≡ t
-test_back hx hy e = simp (to_z-of_z w64 _ hx, to_z-of_z w64 _ hy) at e
-
 -- a sum is at most as large as both numbers together
 pub abs_add_le : (x y : ℤ) → nat_abs (x +ℤ y) ≤ nat_abs x + nat_abs y
 abs_add_le x y = omega (arith, ints)

@@ -13,11 +13,15 @@ use Rattle.order.specs.Order.{default_order}
 use Rattle.sets.specs.declared.ParameterSet.{ParameterSet}
 use Rattle.records.specs.Records.{fresh}
 use Rattle.receiver.specs.Receiving.{receive}
-use Rattle.receiver.specs.declared.ReceiveAnswer.{ReceiveAnswer}
-use Rattle.receiver.specs.declared.ReceiveAnswer.TheVariants.{Result, Refused}
+use Rattle.std.specs.Prelude.{Option, Some, Result, Ok, Err}
+use Rattle.std.specs.Result.{result_and}
+use Rattle.refusal.specs.Refusals.{unless}
+use Rattle.refusal.specs.declared.Refusal.{Refusal}
+use Rattle.refusal.specs.declared.Refusal.TheVariants.{FrameLength, InvalidCodebook}
+use Rattle.receiver.specs.declared.FrameResult.{FrameResult}
 use Rattle.codebook_text.specs.Text.{is_lines}
 use Rattle.spectrum.specs.declared.values.Spectrum.{Spectrum}
-use Rattle.spectrum.specs.Values.{refused, unless, of_texts, of_answer, of_frame}
+use Rattle.spectrum.specs.Values.{of_texts, of_answer, of_frame}
 use Rattle.spectrum.specs.Lines.{text}
 use Rattle.spectrum.specs.Output.{printed, EnoughRead, Prints}
 use Rattle.spectrum.proofs.LongFiles.{long_text_refused}
@@ -31,27 +35,28 @@ front_ext n f b same xs = go (leb n (length xs)) refl
     go false e = ap f (take_all n xs (omega (arith, leb-false n (length xs) e)))
 
 -- eight bytes and more are no frame
-long_input_refused : (bytes : List ℕ) → 8 ≤ length bytes → (receive default_order fresh bytes).answer ≡ Refused 2
+long_input_refused : (bytes : List ℕ) → 8 ≤ length bytes → (receive default_order fresh bytes).answer ≡ Err FrameLength
 unfolding receive
 long_input_refused bytes h = let e : eqb (length bytes) 7 ≡ false = ne_eqb (length bytes) 7 (λ q. absurd (omega arith)) in rw e refl
 
 module _ (set : ParameterSet) (lsf magnitudes : List ℕ) where
   -- a long text of LSF
-  long_lsf_refused : 65536 ≤ length lsf → of_texts set lsf magnitudes ≡ refused 6
+  long_lsf_refused : 65536 ≤ length lsf → of_texts set lsf magnitudes ≡ Err InvalidCodebook
   long_lsf_refused h = rw (long_text_refused 3200 lsf (omega arith) h) refl
 
   -- a long text of magnitudes, whatever the other is
-  long_magnitudes_refused : 65536 ≤ length magnitudes → of_texts set lsf magnitudes ≡ refused 6
+  long_magnitudes_refused : 65536 ≤ length magnitudes → of_texts set lsf magnitudes ≡ Err InvalidCodebook
   long_magnitudes_refused h = rw (long_text_refused 2560 magnitudes (omega arith) h) (go (is_lines 3200 lsf) _)
     where
-      go : (b : Bool) (found : Spectrum) → unless (cond (not b) 6 6) found ≡ refused 6
+      go : (b : Bool) (found : Result Spectrum Refusal)
+          → result_and (unless (cond {A = Option Refusal} (not b) (Some InvalidCodebook) (Some InvalidCodebook)) (tt {0})) found ≡ Err InvalidCodebook
       go true found = refl
       go false found = refl
 
 -- for every answer of the receiver
-answer_ext : (r : ReceiveAnswer) (lsf magnitudes : List ℕ) → of_answer r (take 65536 lsf) (take 65536 magnitudes) ≡ of_answer r lsf magnitudes
-answer_ext (Refused n) lsf magnitudes = refl
-answer_ext (Result r) lsf magnitudes =
+answer_ext : (r : Result FrameResult Refusal) (lsf magnitudes : List ℕ) → of_answer r (take 65536 lsf) (take 65536 magnitudes) ≡ of_answer r lsf magnitudes
+answer_ext (Err f) lsf magnitudes = refl
+answer_ext (Ok r) lsf magnitudes =
     front_ext 65536 (λ t. of_texts r.set t (take 65536 magnitudes)) _ (λ t. long_lsf_refused r.set t (take 65536 magnitudes)) lsf
     ∙ front_ext 65536 (of_texts r.set lsf) _ (long_magnitudes_refused r.set lsf) magnitudes
 
@@ -59,8 +64,8 @@ pub enough_read : EnoughRead
 unfolding of_frame
 enough_read = record {
   same = λ input lsf magnitudes.
-      let e = front_ext 8 (λ bytes. (receive default_order fresh bytes).answer) (Refused 2) long_input_refused input in
-      ap text (answer_ext (receive default_order fresh (take 8 input)).answer lsf magnitudes ∙ ap (λ (r : ReceiveAnswer). of_answer r lsf magnitudes) e);
+      let e = front_ext 8 (λ bytes. (receive default_order fresh bytes).answer) (Err FrameLength) long_input_refused input in
+      ap text (answer_ext (receive default_order fresh (take 8 input)).answer lsf magnitudes ∙ ap (λ (r : Result FrameResult Refusal). of_answer r lsf magnitudes) e);
 }
 
 -- what is printed for the bytes that were read

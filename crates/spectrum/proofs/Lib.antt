@@ -1,4 +1,3 @@
-pub mod Refusals
 pub mod Answers
 pub mod Output
 pub mod LongFiles

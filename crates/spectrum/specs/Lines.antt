@@ -1,5 +1,7 @@
 -- Document 01, "LSF and magnitude values": what the program prints.
-use Rattle.std.specs.Prelude.{ℕ, zero, suc, List, [], ◌∷◌, ◌++◌, ℤ}
+use Rattle.std.specs.Prelude.{ℕ, List, [], ◌∷◌, ◌++◌, ℤ, Result, Ok, Err}
+use Rattle.refusal.specs.Refusals.{number_of}
+use Rattle.refusal.specs.declared.Refusal.{Refusal}
 use Rattle.value_lines.specs.Lines.{value_line, refusal_line}
 use Rattle.spectrum.specs.declared.values.Spectrum.{Spectrum}
 
@@ -9,9 +11,6 @@ lines [] = []
 lines (x ∷ xs) = value_line x ++ lines xs
 
 -- the lines of LSF values and then of magnitudes, or the line of the refusal
-abbrev pub text_unless : ℕ → List ℤ → List ℤ → List ℕ
-text_unless zero lsf magnitudes = lines lsf ++ lines magnitudes
-text_unless (suc n) lsf magnitudes = refusal_line (suc n)
-
-abbrev pub text : Spectrum → List ℕ
-text s = text_unless s.refusal s.lsf s.magnitudes
+abbrev pub text : Result Spectrum Refusal → List ℕ
+text (Ok values) = lines values.lsf ++ lines values.magnitudes
+text (Err f) = refusal_line (number_of f)

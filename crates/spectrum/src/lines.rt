@@ -5,32 +5,32 @@ ghost use Rattle.text.specs.Placing.{Appended};
 ghost use Rattle.spectrum.specs.Lines.{lines, text};
 
 use crate::values::Spectrum;
-use text::end_of;
+use refusal::Refusal;
 use value_lines::{refusal_line, value_line};
 
 // All that the program prints, to the front of a buffer; how many bytes it is.
-pub(crate) fn write_text(spectrum: Spectrum, out: &mut [u8; 512]) -> usize
+pub(crate) fn write_text(spectrum: Result<Spectrum, Refusal>, out: &mut [u8; 512]) -> usize
     ensures printed { take result out.new ≡ text spectrum }
     ensures size { IsPrefixLen result out.new }
 {
-    if spectrum.refusal != 0 {
-        return end_of(refusal_line(spectrum.refusal, out, 0), 0);
+    match spectrum {
+        Ok(values) => {
+            let at = write_lines(&values.lsf, out, 0);
+            write_lines(&values.magnitudes, out, at)
+        }
+        Err(refusal) => refusal_line(refusal.number(), out, 0).unwrap_or(0),
     }
-    let lsf = spectrum.lsf;
-    let magnitudes = spectrum.magnitudes;
-    let at = write_lines(lsf, out, 0);
-    write_lines(magnitudes, out, at)
 }
 
 // Ten numbers, a line for each, from `at` on; where they end.
-fn write_lines(numbers: [i64; 10], out: &mut [u8], at: usize) -> usize
+fn write_lines(numbers: &[i64; 10], out: &mut [u8], at: usize) -> usize
     requires { at + 220 ≤ length out.old }
-    ensures lines { Appended out.old at (lines numbers) out.new result }
+    ensures lines { Appended out.old at (lines numbers.now) out.new result }
     ensures bound { result ≤ at + 220 }
 {
     let mut end = at;
-    for i in 0..10 {
-        end = end_of(value_line(numbers[i], out, end), end);
+    for &number in numbers {
+        end = value_line(number, out, end).unwrap_or(end);
     }
     end
 }

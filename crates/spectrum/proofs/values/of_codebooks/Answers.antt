@@ -1,9 +1,23 @@
--- `spectrum::values::of_codebooks` meets its contract: both calls are made, and the first refusal counts. Assumes nothing.
-use Rattle.spectrum.proofs.Answers.{codebooks_owe}
+-- `spectrum::values::of_codebooks` meets its contract: the first call that is refused counts. Assumes nothing.
+use mathlib.Core.Path.{◌≡◌, ◌∙◌}
+use borrow.Author.Rules.{rules}
+use Rattle.std.specs.Prelude.{Err}
+use Rattle.spectrum.proofs.Answers.{lsf_refused, magnitudes_refused, values_found}
 use Rattle.spectrum.proofs.values.of_codebooks.Goals as goal
+
+pub returns-in_err-lsf_values : goal.returns-in_err-lsf_values
+returns-in_err-lsf_values c =
+    let a = c.args in
+    let r : c.from_residual.result ≡ Err c.in_err-lsf_values.field-0.0 = search rules in
+    r ∙ lsf_refused a.set a.lsf.now a.magnitudes.now _ c.in_err-lsf_values.ensures.answer
+
+pub returns-in_err-magnitudes : goal.returns-in_err-magnitudes
+returns-in_err-magnitudes c =
+    let a = c.args in
+    let r : c.from_residual-in_err-magnitudes.result ≡ Err c.in_err-magnitudes.field-0.0 = search rules in
+    r ∙ magnitudes_refused a.set a.lsf.now a.magnitudes.now _ c.in_ok-lsf_values.ensures.answer c.in_err-magnitudes.ensures.answer
 
 pub returns : goal.returns
 returns c =
     let a = c.args in
-    codebooks_owe a.set a.lsf.now a.magnitudes.now _ _ _ _ _ _ _ (c.lsf_values.ensures.answer, c.lsf_values.ensures.written) c.values_refusal-first.ensures
-    (c.magnitudes.ensures.answer, c.magnitudes.ensures.written) c.values_refusal-second.ensures c.first_refusal.ensures
+    values_found a.set a.lsf.now a.magnitudes.now c.in_ok-lsf_values.ensures.answer c.in_ok-magnitudes.ensures.answer _ _ c.lsf_values.ensures.written c.magnitudes.ensures.written
