@@ -1,5 +1,5 @@
 // The call of a vector, by its kind.
-ghost use Rattle.std.specs.Prelude.{◌≤◌};
+ghost use Rattle.std.specs.Prelude.{◌≤◌, length};
 
 use crate::codebooks::codebook_of;
 use crate::set_calls::set_call_agrees;
@@ -8,57 +8,38 @@ use crate::{
     choosing, frames, orders, parameters, rows, sessions, short, soft_words, state, texts, values,
 };
 
-// Whether the call with the first numbers of this codebook agrees.
-fn lent_agrees(r: &[u8; 256], kind: u8, codebook: &[i64; 3201], size: usize) -> bool
-    requires { size ≤ 3201 }
+// Whether the call with this codebook agrees.
+fn lent_agrees(r: &[u8; 256], kind: u8, codebook: &[i64]) -> bool
+    requires { length codebook.now ≤ 3201 }
 {
-    let all: &[i64] = codebook;
-    let lent = &all[..size];
-    if kind == 16 {
-        return rows::lsf_row_agrees(r, lent);
+    match kind {
+        16 => rows::lsf_row_agrees(r, codebook),
+        17 => rows::magnitude_row_agrees(r, codebook),
+        18 | 19 => values::values_agree(r, kind, codebook),
+        _ => texts::text_agrees(r, kind, codebook),
     }
-    if kind == 17 {
-        return rows::magnitude_row_agrees(r, lent);
-    }
-    if kind < 20 {
-        return values::values_agree(r, kind, lent);
-    }
-    texts::text_agrees(r, kind, lent)
 }
 
 // Kinds 16 to 21: calls with a codebook of at most 3,201 numbers.
 fn codebook_call_agrees(r: &[u8; 256], kind: u8) -> bool {
     let size = number(r, 16, 2);
-    if 3201 < size {
-        return false;
-    }
-    let codebook = codebook_of(r);
-    lent_agrees(r, kind, &codebook, size)
-}
-
-// Kinds 2 to 7 and 16 to 21; no vector of another kind agrees.
-fn ranged_agrees(r: &[u8; 256], kind: u8) -> bool {
-    if kind < 8 {
-        return (1 < kind) & short::short_agrees(r, kind);
-    }
-    (kind < 22) & codebook_call_agrees(r, kind)
+    size <= 3201 && lent_agrees(r, kind, &codebook_of(r)[..size])
 }
 
 // The kinds with an order, of at most 60 entries.
 fn ordered_agrees(r: &[u8; 256], kind: u8) -> bool {
-    if !orders::order_fits(r) {
-        return false;
-    }
-    match kind {
-        10 => frames::frame_agrees(r),
-        11 => frames::logical_agrees(r),
-        35 => soft_words::taking_agrees(r),
-        36 => orders::list_agrees(r),
-        _ => set_call_agrees(r, kind),
-    }
+    orders::order_fits(r)
+        && match kind {
+            10 => frames::frame_agrees(r),
+            11 => frames::logical_agrees(r),
+            35 => soft_words::taking_agrees(r),
+            36 => orders::list_agrees(r),
+            _ => set_call_agrees(r, kind),
+        }
 }
 
-// Whether the libraries answer as the vector says.
+// Whether the libraries answer as the vector says; no vector of another kind agrees. The kinds are numbers, as tests/reference
+// writes them into the files of vectors.
 pub(crate) fn agrees(r: &[u8; 256]) -> bool {
     let kind = byte(r, 0);
     match kind {
@@ -76,6 +57,8 @@ pub(crate) fn agrees(r: &[u8; 256]) -> bool {
         30 => soft_words::choice_agrees(r),
         31 => soft_words::reading_agrees(r),
         37 => orders::default_agrees(r),
-        _ => ranged_agrees(r, kind),
+        2..=7 => short::short_agrees(r, kind),
+        16..=21 => codebook_call_agrees(r, kind),
+        _ => false,
     }
 }

@@ -1,26 +1,19 @@
 // Vectors of gain codes.
-ghost use Rattle.std.specs.Prelude.{◌<◌};
+ghost use Rattle.std.specs.Prelude.{◌≤◌};
 
 use crate::vector::{byte, joined, number, refused};
-use quantiser::CodesAnswer;
+use quantiser::GainCodes;
 
-// Four bytes as a signed number in two's complement.
-fn signed(x: usize) -> i32
-    requires { x < 4294967296 }
+// The four bytes from `at` as a signed number in two's complement.
+fn signed(r: &[u8; 256], at: usize) -> i32
+    requires { at ≤ 252 }
 {
-    if x < 2147483648 {
-        return x as i32;
-    }
-    -1 - (4294967295 - x) as i32
+    (number(r, at, 4) as u32).cast_signed()
 }
 
 // Kind 8: gain codes chosen; the refusal, and both codes.
 pub(crate) fn choice_agrees(r: &[u8; 256]) -> bool {
-    let first = signed(number(r, 1, 4));
-    let second = signed(number(r, 5, 4));
-    let answered = match quantiser::choose(first, second, byte(r, 9)) {
-        CodesAnswer::Codes { g2, g1 } => joined(0, g2, g1),
-        CodesAnswer::Refused(n) => joined(refused(n), 0, 0),
-    };
-    number(r, 10, 3) == answered
+    let chosen = quantiser::choose(signed(r, 1), signed(r, 5), byte(r, 9));
+    let codes = chosen.unwrap_or(GainCodes { g2: 0, g1: 0 });
+    number(r, 10, 3) == joined(refused(chosen), codes.g2, codes.g1)
 }

@@ -1,11 +1,15 @@
 // The codebook that a vector gives by a rule, and lists of numbers.
-ghost use Rattle.std.specs.Prelude.{◌≤◌, length};
+ghost use Rattle.std.specs.Prelude.{◌≤◌};
 
-use crate::vector::{number, signed};
-use std::num::wrapping_add_usize;
+use crate::vector::number;
 
 // What each number of an output or a buffer holds before a call.
 pub(crate) const HELD: i64 = -7;
+
+// A number read as a signed one in two's complement.
+fn signed(x: usize) -> i64 {
+    (x as u64).cast_signed()
+}
 
 // What is added to number i for the next one: `jump` after each tenth, otherwise `step`.
 fn added(i: usize, step: usize, jump: usize) -> usize {
@@ -16,9 +20,9 @@ fn added(i: usize, step: usize, jump: usize) -> usize {
 fn ruled(start: usize, step: usize, jump: usize) -> [i64; 3201] {
     let mut codebook = [HELD; 3201];
     let mut value = start;
-    for i in 0..3201 {
-        codebook[i] = signed(value);
-        value = wrapping_add_usize(value, added(i, step, jump));
+    for (i, entry) in codebook.iter_mut().enumerate() {
+        *entry = signed(value);
+        value = value.wrapping_add(added(i, step, jump));
     }
     codebook
 }
@@ -27,9 +31,8 @@ fn ruled(start: usize, step: usize, jump: usize) -> [i64; 3201] {
 fn replace_by(codebook: &mut [i64; 3201], r: &[u8; 256], at: usize)
     requires { at ≤ 246 }
 {
-    let place = number(r, at, 2);
-    if place < 3201 {
-        codebook[place] = signed(number(r, at + 2, 8));
+    if let Some(entry) = codebook.get_mut(number(r, at, 2)) {
+        *entry = signed(number(r, at + 2, 8));
     }
 }
 
@@ -42,25 +45,12 @@ pub(crate) fn codebook_of(r: &[u8; 256]) -> [i64; 3201] {
     codebook
 }
 
-// Whether these are the first numbers of a buffer.
-pub(crate) fn begins_with(buffer: &[i64; 3201], numbers: &[i64]) -> bool
-    requires { length numbers.now ≤ 3201 }
-{
-    let mut same = true;
-    for i in 0..numbers.len() {
-        same = same & (buffer[i] == numbers[i]);
-    }
-    same
-}
-
-// Whether these are the numbers from byte 74; a vector has twelve at most.
+// Whether these are the numbers from byte 74, eight bytes each; a vector has twelve at most.
 pub(crate) fn numbers_agree(r: &[u8; 256], numbers: &[i64]) -> bool {
-    if 12 < numbers.len() {
-        return false;
-    }
-    let mut same = true;
-    for k in 0..numbers.len() {
-        same = same & (numbers[k] == signed(number(r, 74 + 8 * k, 8)));
-    }
-    same
+    let (given, _) = r[74..].as_chunks::<8>();
+    numbers.len() <= 12
+        && given
+            .iter()
+            .zip(numbers)
+            .all(|(bytes, x)| i64::from_be_bytes(*bytes) == *x)
 }

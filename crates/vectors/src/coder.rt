@@ -1,27 +1,23 @@
 // Answers about the pitch code, the words and the levels. Each is made the number of the bytes that a vector has for it.
 use crate::vector::{joined, refused};
-use gain::LevelAnswer;
-use hamming::{Decoded, WordLength};
-use pitch::{ClassAnswer, CodeAnswer, PitchClass};
+use hamming::{Word, WordLength};
+use pitch::PitchClass;
+use refusal::Refusal;
 
 // The refusal, the number of the class, and the index.
 fn class_number(code: u8) -> usize {
     match pitch::classify(code) {
-        ClassAnswer::Refused(n) => joined(refused(n), 0, 0),
-        ClassAnswer::Class(class) => match class {
-            PitchClass::Unvoiced => 0,
-            PitchClass::Erased => 256,
-            PitchClass::Voiced(i) => joined(0, 2, i),
-        },
+        Err(refusal) => joined(refusal.number(), 0, 0),
+        Ok(PitchClass::Unvoiced) => 0,
+        Ok(PitchClass::Erased) => 256,
+        Ok(PitchClass::Voiced(i)) => joined(0, 2, i),
     }
 }
 
 // The refusal, and the code.
 fn code_number(index: u8) -> usize {
-    match pitch::encode(index) {
-        CodeAnswer::Refused(n) => joined(0, refused(n), 0),
-        CodeAnswer::Code(code) => joined(0, 0, code),
-    }
+    let code = pitch::encode(index);
+    joined(0, refused(code), code.unwrap_or(0))
 }
 
 // The length of a word; anything else than 6 or 7 is 8.
@@ -34,18 +30,18 @@ pub(crate) fn length_of(n: u8) -> WordLength {
 }
 
 // Whether the word is erased, its data, and the repaired count.
-pub(crate) fn word_number(outcome: Decoded) -> usize {
+pub(crate) fn word_number(outcome: Option<Word>) -> usize {
     match outcome {
-        Decoded::Erased => 65536,
-        Decoded::Read(data, repaired) => joined(0, data, repaired),
+        None => joined(1, 0, 0),
+        Some(word) => joined(0, word.data, word.repaired),
     }
 }
 
 // The refusal, and the level; one that two bytes cannot hold is no answer's number.
-fn level_number(answer: LevelAnswer) -> usize {
+fn level_number(answer: Result<u32, Refusal>) -> usize {
     match answer {
-        LevelAnswer::Refused(n) => joined(refused(n), 0, 0),
-        LevelAnswer::Level(x) => { if x < 65536 { x as usize } else { 16777216 } }
+        Err(refusal) => joined(refusal.number(), 0, 0),
+        Ok(x) => { if x < 65536 { x as usize } else { 16777216 } }
     }
 }
 

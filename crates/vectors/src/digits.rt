@@ -17,24 +17,18 @@ pub(crate) fn decimal_digit(n: usize, i: usize) -> u8 {
 pub(crate) fn digits_in(n: usize) -> usize
     ensures { result ≤ 5 }
 {
-    if n < 10 {
-        return 1;
+    match n {
+        0..10 => 1,
+        10..100 => 2,
+        100..1000 => 3,
+        1000..10000 => 4,
+        _ => 5,
     }
-    if n < 100 {
-        return 2;
-    }
-    if n < 1000 {
-        return 3;
-    }
-    if n < 10000 {
-        return 4;
-    }
-    5
 }
 
 // A hexadecimal digit.
 pub(crate) fn hex_digit(d: u8) -> u8
     requires { d < 16 }
 {
-    if d < 10 { b'0' + d } else { 87 + d }
+    b"0123456789abcdef"[usize::from(d)]
 }

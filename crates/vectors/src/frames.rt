@@ -3,42 +3,33 @@ ghost use Rattle.std.specs.Prelude.{◌≤◌};
 
 use crate::orders::order_of;
 use crate::vector::{byte, bytes_agree, number, part, refused, set_agrees};
-use order::BitsAnswer;
-use reading::Reading;
+use reading::Accepted;
 
-// Whether a frame is the one in bytes 9 to 15.
-fn seven_agree(r: &[u8; 256], frame: &[u8; 7]) -> bool {
-    bytes_agree(r, 9, frame)
-}
-
-// Kind 10: the frame of 54 bits, and the refusal after it.
+// Kind 10: the frame of 54 bits, and the refusal after it; beside a refusal stand zeros.
 pub(crate) fn frame_agrees(r: &[u8; 256]) -> bool {
     let placed = order::place_bits(number(r, 1, 8) as u64, order_of(r));
-    let frame = placed.bytes;
-    seven_agree(r, &frame) & (byte(r, 16) == placed.refusal)
+    bytes_agree(r, 9, &placed.unwrap_or([0; 7])) & (byte(r, 16) == refused(placed))
 }
 
-// Kind 11: the 54 bits of a frame.
+// Kind 11: the 54 bits of a frame; beside a refusal stands 0.
 pub(crate) fn logical_agrees(r: &[u8; 256]) -> bool {
     let size = number(r, 1, 1);
-    let refusal = byte(r, 11);
-    let bits = number(r, 12, 8) as u64;
-    match order::logical_bits(part(r, 2, size), order_of(r)) {
-        BitsAnswer::Bits(x) => (size <= 9) & (refusal == 0) & (bits == x),
-        BitsAnswer::Refused(n) => (size <= 9) & (refusal == refused(n)) & (bits == 0),
-    }
+    let taken = order::logical_bits(part(r, 2, size), order_of(r));
+    (size <= 9) & (byte(r, 11) == refused(taken)) & (number(r, 12, 8) as u64 == taken.unwrap_or(0))
 }
 
 // Whether 54 bits are read as the thirteen bytes from `start` say: erased, the set, and the repaired count. Of an erasure
 // nothing else is told.
-pub(crate) fn content_agrees(r: &[u8; 256], start: usize, reading: Reading) -> bool
+pub(crate) fn content_agrees(r: &[u8; 256], start: usize, reading: Option<Accepted>) -> bool
     requires { start ≤ 243 }
 {
     let erased = r[start];
     match reading {
-        Reading::Erased => erased == 1,
-        Reading::Accepted(set, repaired) => {
-            (erased == 0) & set_agrees(r, start + 1, set) & (r[start + 12] == repaired)
+        None => erased == 1,
+        Some(accepted) => {
+            (erased == 0)
+                & set_agrees(r, start + 1, accepted.set)
+                & (r[start + 12] == accepted.repaired)
         }
     }
 }

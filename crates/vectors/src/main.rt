@@ -51,18 +51,12 @@ mod vector;
 use std::io;
 use std::io::Write;
 
-// A name and a number.
-fn print<W: Write>(to: &mut W, name: &[u8], n: u64) -> io::Result<()> {
-    to.write_all(name)?;
-    write!(to, "{n}")
-}
-
 // Prints how many vectors were read, how many of them differ, and how many bytes came after them.
 fn tell<W: Write>(to: &mut W, vectors: u64, differences: u64, left: u64) -> io::Result<()> {
-    print(to, b"vectors=", vectors)?;
-    print(to, b" differences=", differences)?;
-    print(to, b" left=", left)?;
-    to.write_all(b"\n")
+    writeln!(
+        to,
+        "vectors={vectors} differences={differences} left={left}"
+    )
 }
 
 // How many vectors are read at most.
@@ -77,7 +71,7 @@ fn main(rt: HostRuntime) -> io::Result<()> {
         if got < 256 {
             return tell(&mut rt.stdout(), i, differences, got as u64);
         }
-        differences += !calls::agrees(&r) as u64;
+        differences += u64::from(!calls::agrees(&r));
     }
     tell(&mut rt.stdout(), MOST, differences, 0)
 }

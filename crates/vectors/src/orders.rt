@@ -1,6 +1,5 @@
 // The order of a vector, and vectors of orders.
-use crate::vector::{bit, byte, bytes_agree, joined, number, part, refused};
-use bursts::WidthAnswer;
+use crate::vector::{byte, bytes_agree, joined, number, part, refused};
 
 // Whether byte 180, the number of entries, is one that a vector has.
 pub(crate) fn order_fits(r: &[u8; 256]) -> bool {
@@ -15,16 +14,12 @@ pub(crate) fn order_of(r: &[u8; 256]) -> &[u8] {
 // Kind 36: whether a list is an order, the refusal of its burst width, and this width.
 pub(crate) fn list_agrees(r: &[u8; 256]) -> bool {
     let order = order_of(r);
-    let good = bit(order::is_order(order));
-    let answered = match bursts::burst_width(order) {
-        WidthAnswer::Width(width) => joined(good, 0, width),
-        WidthAnswer::Refused(n) => joined(good, refused(n), 0),
-    };
-    number(r, 1, 3) == answered
+    let good = u8::from(order::is_order(order));
+    let width = bursts::burst_width(order);
+    number(r, 1, 3) == joined(good, refused(width), width.unwrap_or(0))
 }
 
 // Kind 37: the default order.
 pub(crate) fn default_agrees(r: &[u8; 256]) -> bool {
-    let entries = order::default_order();
-    bytes_agree(r, 1, &entries)
+    bytes_agree(r, 1, &order::default_order())
 }

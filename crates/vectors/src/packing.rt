@@ -1,7 +1,7 @@
 // Vectors of packing.
 use crate::orders::order_of;
-use crate::vector::{bit, byte, bytes_agree, joined, number, refused};
-use frame::PackAnswer;
+use crate::vector::{byte, bytes_agree, joined, number, refused};
+use refusal::Refusal;
 use sets::ParameterSet;
 
 // What each byte of an output holds before a call.
@@ -9,12 +9,9 @@ pub(crate) const HELD: u8 = 165;
 
 // Whether the refusal and the next sync bit are those in bytes 14 and 15, and the output afterwards is the one in bytes 16
 // to 31.
-fn packed_agrees(r: &[u8; 256], answer: PackAnswer, out: &[u8; 16]) -> bool {
-    let answered = match answer {
-        PackAnswer::Packed(next) => joined(0, 0, bit(next)),
-        PackAnswer::Refused(n) => joined(0, refused(n), 0),
-    };
-    (number(r, 14, 2) == answered) & bytes_agree(r, 16, out)
+fn packed_agrees(r: &[u8; 256], answer: Result<bool, Refusal>, out: &[u8; 16]) -> bool {
+    let next = u8::from(answer.unwrap_or(false));
+    (number(r, 14, 2) == joined(0, refused(answer), next)) & bytes_agree(r, 16, out)
 }
 
 // Kind 1: packing.

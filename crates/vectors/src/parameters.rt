@@ -1,16 +1,15 @@
 // Vectors of parameter sets: their ranges, and their bytes.
 ghost use Rattle.std.specs.Prelude.{◌≤◌};
 
-use crate::vector::{bit, byte, bytes_agree, number, part, refused, set_agrees};
-use set_bytes::SetAnswer;
+use crate::vector::{byte, bytes_agree, number, part, set_agrees};
 use sets::ParameterSet;
 
 // Kind 12: the ranges and the indices of a set.
 pub(crate) fn ranges_agree(r: &[u8; 256], set: ParameterSet) -> bool {
     let x = sets::indices_of(set);
     let bytes = [
-        bit(sets::is_in_range(set)),
-        bit(sets::is_sendable(set)),
+        u8::from(sets::is_in_range(set)),
+        u8::from(sets::is_sendable(set)),
         x.l1,
         x.l2,
         x.l3,
@@ -25,28 +24,23 @@ pub(crate) fn ranges_agree(r: &[u8; 256], set: ParameterSet) -> bool {
 fn fields_agree(r: &[u8; 256], start: usize, set: ParameterSet) -> bool
     requires { start ≤ 245 }
 {
-    match set {
-        ParameterSet::Unvoiced(x) => {
-            let fields = [0, x.l1, x.l2, x.l3, x.l4, x.g2, x.g1, 0, 0, 0, 0];
-            bytes_agree(r, start, &fields)
-        }
-        ParameterSet::Voiced(x, v) => {
-            let fields = [
-                1,
-                x.l1,
-                x.l2,
-                x.l3,
-                x.l4,
-                x.g2,
-                x.g1,
-                v.pitch,
-                v.bandpass,
-                v.fourier,
-                v.aperiodic,
-            ];
-            bytes_agree(r, start, &fields)
-        }
-    }
+    let fields = match set {
+        ParameterSet::Unvoiced(x) => [0, x.l1, x.l2, x.l3, x.l4, x.g2, x.g1, 0, 0, 0, 0],
+        ParameterSet::Voiced(x, v) => [
+            1,
+            x.l1,
+            x.l2,
+            x.l3,
+            x.l4,
+            x.g2,
+            x.g1,
+            v.pitch,
+            v.bandpass,
+            v.fourier,
+            v.aperiodic,
+        ],
+    };
+    bytes_agree(r, start, &fields)
 }
 
 // Kind 23: the set in bytes.
@@ -57,15 +51,13 @@ pub(crate) fn reading_agrees(r: &[u8; 256]) -> bool {
         return false;
     }
     match set_bytes::read(part(r, 2, size)) {
-        SetAnswer::Set(set) => (refusal == 0) & fields_agree(r, 15, set),
-        SetAnswer::Refused(n) => (refusal == refused(n)) & bytes_agree(r, 15, &[0; 11]),
+        Ok(set) => (refusal == 0) & fields_agree(r, 15, set),
+        Err(f) => (refusal == f.number()) & bytes_agree(r, 15, &[0; 11]),
     }
 }
 
 // Kind 24: the bytes of a set. The set is the one in the expected bytes, if its fields are those in bytes 1 to 11.
 pub(crate) fn writing_agrees(r: &[u8; 256]) -> bool {
-    match set_bytes::read(part(r, 12, 11)) {
-        SetAnswer::Set(set) => fields_agree(r, 1, set) & set_agrees(r, 12, set),
-        SetAnswer::Refused(_) => false,
-    }
+    set_bytes::read(part(r, 12, 11)).is_ok_and(|set| fields_agree(r, 1, set)
+        & set_agrees(r, 12, set))
 }

@@ -2,9 +2,10 @@
 use crate::in_place::{in_place, soft_in_place};
 use crate::orders::order_of;
 use crate::state::{record_agrees, record_of};
-use crate::vector::{bit, byte, joined, number, part, refused, set_agrees};
-use receiver::{FrameResult, Kind, ReceiveAnswer, Received};
+use crate::vector::{byte, joined, number, part, set_agrees};
+use receiver::{FrameResult, Kind, Received};
 use records::Record;
+use refusal::Refusal;
 use sets::ParameterSet;
 
 // The number of a result's kind.
@@ -23,25 +24,23 @@ fn levels_agree(r: &[u8; 256], first: u32, second: u32) -> bool {
 
 // Whether mute, the sync bit and the repaired count are those in bytes 43 to 45.
 fn marks_agree(r: &[u8; 256], mute: bool, sync: bool, repaired: u8) -> bool {
-    number(r, 43, 3) == joined(bit(mute), bit(sync), repaired)
+    number(r, 43, 3) == joined(u8::from(mute), u8::from(sync), repaired)
 }
 
 // Whether the result is the one in bytes 27 to 45.
 fn result_agrees(r: &[u8; 256], res: FrameResult) -> bool {
-    let kind = res.kind;
-    let set = res.set;
-    (byte(r, 27) == number_of(kind))
-        & set_agrees(r, 28, set)
+    (byte(r, 27) == number_of(res.kind))
+        & set_agrees(r, 28, res.set)
         & levels_agree(r, res.first, res.second)
         & marks_agree(r, res.mute, res.sync, res.repaired)
 }
 
 // Whether the answer is the one in bytes 26 to 45; of a refusal there is only its number.
-fn answer_agrees(r: &[u8; 256], answer: ReceiveAnswer) -> bool {
+fn answer_agrees(r: &[u8; 256], answer: Result<FrameResult, Refusal>) -> bool {
     let refusal = byte(r, 26);
     match answer {
-        ReceiveAnswer::Result(result) => (refusal == 0) & result_agrees(r, result),
-        ReceiveAnswer::Refused(n) => refusal == refused(n),
+        Ok(res) => (refusal == 0) & result_agrees(r, res),
+        Err(f) => refusal == f.number(),
     }
 }
 
@@ -67,7 +66,8 @@ pub(crate) fn receive_agrees(r: &[u8; 256], kind: u8, last: ParameterSet) -> boo
         order_of(r),
         part(r, 62, count),
     );
-    let answer = received.answer;
-    let next = received.next;
-    (size <= 9) & (count <= 56) & answer_agrees(r, answer) & record_agrees(r, 46, next)
+    (size <= 9)
+        & (count <= 56)
+        & answer_agrees(r, received.answer)
+        & record_agrees(r, 46, received.next)
 }

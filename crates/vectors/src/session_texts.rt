@@ -15,20 +15,14 @@ pub(crate) fn frame_byte(j: usize, first: u8) -> u8
 fn line_byte(i: usize, k: usize, first: u8) -> u8
     requires { (i < 4000) × (k < 17) }
 {
-    if k == 0 {
-        return b'f';
-    }
-    if k == 1 {
-        return b'=';
-    }
-    if k == 16 {
-        return b'\n';
-    }
-    let b = frame_byte(7 * i + k / 2 - 1, first);
-    if k % 2 == 0 {
-        hex_digit(b / 16)
-    } else {
-        hex_digit(b % 16)
+    match k {
+        0 => b'f',
+        1 => b'=',
+        16 => b'\n',
+        _ => {
+            let b = frame_byte(7 * i + k / 2 - 1, first);
+            hex_digit(if k % 2 == 0 { b / 16 } else { b % 16 })
+        }
     }
 }
 

@@ -1,7 +1,6 @@
 // The calls with a set, by their kind.
 use crate::vector::part;
 use crate::{packing, parameters, receiving, state};
-use set_bytes::SetAnswer;
 use sets::ParameterSet;
 
 // A call with the set in bytes 1 to 11.
@@ -17,8 +16,5 @@ fn call_agrees(r: &[u8; 256], kind: u8, set: ParameterSet) -> bool {
 
 // The same where these bytes may be those of no set: then no call agrees.
 pub(crate) fn set_call_agrees(r: &[u8; 256], kind: u8) -> bool {
-    match set_bytes::read(part(r, 1, 11)) {
-        SetAnswer::Set(set) => call_agrees(r, kind, set),
-        SetAnswer::Refused(_) => false,
-    }
+    set_bytes::read(part(r, 1, 11)).is_ok_and(|set| call_agrees(r, kind, set))
 }

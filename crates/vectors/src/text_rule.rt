@@ -1,5 +1,5 @@
 // The text of a vector by its rule: so many bytes of a plain text with one change in it.
-ghost use Rattle.std.specs.Prelude.{◌<◌, ◌≤◌};
+ghost use Rattle.std.specs.Prelude.{◌<◌};
 
 use crate::digits::decimal_digit;
 use crate::session_texts::session_byte;
@@ -38,24 +38,14 @@ fn changed_byte(r: &[u8; 256], j: usize, at: usize, skipped: usize, given: &[u8]
     plain_byte(r, j - given.len() + skipped)
 }
 
-// The text to the front of a buffer, by bytes 1 to 6 and those from 74 on; its size.
-pub(crate) fn write_text(r: &[u8; 256], text: &mut [u8; 65536]) -> usize
-    ensures { result < 65536 }
-{
+// The text to the front of a buffer, by bytes 1 to 6 and those from 74 on.
+pub(crate) fn write_text<'a>(r: &[u8; 256], buffer: &'a mut [u8; 65536]) -> &'a [u8] {
     let size = number(r, 1, 2);
     let at = number(r, 3, 2);
     let skipped = number(r, 5, 1);
     let given = part(r, 74, number(r, 6, 1));
-    for j in 0..size {
-        text[j] = changed_byte(r, j, at, skipped, given);
+    for (j, b) in buffer[..size].iter_mut().enumerate() {
+        *b = changed_byte(r, j, at, skipped, given);
     }
-    size
-}
-
-// The first bytes of a buffer.
-pub(crate) fn front(buffer: &[u8; 65536], size: usize) -> &[u8]
-    requires { size ≤ 65536 }
-{
-    let all: &[u8] = buffer;
-    &all[..size]
+    &buffer[..size]
 }

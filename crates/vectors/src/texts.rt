@@ -1,18 +1,9 @@
 // Vectors of codebooks in their text form.
 ghost use Rattle.std.specs.Prelude.{◌≤◌, length};
 
-use crate::codebooks::{HELD, begins_with};
-use crate::text_rule::{front, write_text};
+use crate::codebooks::HELD;
+use crate::text_rule::write_text;
 use crate::vector::{byte, refused};
-use codebook_text::TextAnswer;
-
-// The refusal in an answer, 0 is none.
-fn refusal_of(answer: TextAnswer) -> u8 {
-    match answer {
-        TextAnswer::Filled => 0,
-        TextAnswer::Refused(n) => refused(n),
-    }
-}
 
 // Whether a text, read as the LSF codebook in kind 20 and as the magnitudes in kind 21, gives the refusal in byte 72, and
 // the numbers expected.
@@ -26,14 +17,14 @@ fn read_agrees(r: &[u8; 256], kind: u8, text: &[u8], expected: &[i64]) -> bool
     } else {
         codebook_text::read_magnitudes(text, &mut buffer[..room])
     };
-    (byte(r, 72) == refusal_of(answer)) & begins_with(&buffer, expected)
+    (byte(r, 72) == refused(answer)) & buffer.starts_with(expected)
 }
 
 // Kinds 20 and 21: reading a text into a buffer of as many numbers as are expected.
 pub(crate) fn text_agrees(r: &[u8; 256], kind: u8, expected: &[i64]) -> bool
     requires { length expected.now ≤ 3201 }
 {
-    let mut text = console::large_buffer();
-    let size = write_text(r, &mut text);
-    read_agrees(r, kind, front(&text, size), expected)
+    let mut buffer = console::large_buffer();
+    let text = write_text(r, &mut buffer);
+    read_agrees(r, kind, text, expected)
 }

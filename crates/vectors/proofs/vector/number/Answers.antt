@@ -1,6 +1,5 @@
--- `vectors::vector::number` is safe, ends and meets its contract: k is at most the size, and k bytes make a number below 256 ^ k.
--- Assumes nothing.
-use Rattle.std.proofs.Common.{◌≡◌, ℕ, ◌+◌, ◌*◌, ◌^◌, ◌<◌, ◌≤◌, pow-suc, add-one, arith}
+-- `vectors::vector::number` is safe, ends and meets its contract: so many bytes make a number below that power of 256. Assumes nothing.
+use Rattle.std.proofs.Common.{◌≡◌, ℕ, ◌+◌, ◌*◌, ◌^◌, ◌<◌, ◌≤◌, pow-suc, add-one, sym, rules, arith}
 use native.Mathlib.Nat.{pow-le-pow_right}
 use Rattle.vectors.proofs.vector.number.Goals as goal
 
@@ -18,15 +17,19 @@ fits n k h l =
     omega (arith, more n k 255 h (omega arith))
 
 pub overflow_mul-n : goal.overflow_mul-n
-overflow_mul-n c = omega (arith, fits _ _ c.loop-k.invariant.1 (omega arith))
+overflow_mul-n c = omega (arith, fits _ _ c.loop-x.invariant.2 (omega arith))
 
 pub overflow_add-n : goal.overflow_add-n
-overflow_add-n c = omega (arith, fits _ _ c.loop-k.invariant.1 (omega arith))
+overflow_add-n c =
+    let b : c.from.result < 256 = search rules in
+    omega (arith, fits _ _ c.loop-x.invariant.2 (omega arith))
 
-pub loop-k-preserved : goal.loop-k-preserved
-loop-k-preserved c = (omega arith, more _ _ _ c.loop-k.invariant.1 c.count.ensures)
+pub loop-x-preserved : goal.loop-x-preserved
+loop-x-preserved c =
+    let b : c.from.result < 256 = search rules in
+    (c.loop-x.invariant.0, c.loop-x.invariant.1, more _ _ _ c.loop-x.invariant.2 b)
 
 pub returns : goal.returns
 returns c =
-    let e : c.args.size ≡ c.loop-k.k = omega arith in
-    rw e c.loop-k.invariant.1
+    let e : c.loop-x.x-index ≡ c.args.size = omega arith in
+    rw (sym e) c.loop-x.invariant.2
