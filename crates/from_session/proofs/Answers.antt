@@ -19,10 +19,10 @@ read_enough buffer input size full read = ap reading (read ∙ ap (λ (m : ℕ).
 
 module _ (buffer : List ℕ) (size : ℕ) (full : length buffer ≡ most_input) (out : List ℕ) (answer : Answer) (end : ℕ) (after : List ℕ)
     (o : Owed (take size buffer) out answer end after) where
-  -- the frames in front of the output, and a text in front of the other that is the message for the answer
-  pub told_owes : (errors : List ℕ) (last : ℕ) → take last errors ≡ message_of answer → AllWritten buffer size after end errors last
+  -- the frames are in front of the output, and the message is that for the answer
+  pub told_owes : (errors : List ℕ) → errors ≡ message_of answer → AllWritten buffer size (take end after) errors
   unfolding frames
-  told_owes errors last m input read =
+  told_owes errors m input read =
       let bytes = joined (reading (take size buffer)).frames in
       let front : take end after ≡ bytes = ap (take end) o.1.1 ∙ take_at bytes (drop end out) end (sym o.1.0) in
       let same = read_enough buffer input size full read in (

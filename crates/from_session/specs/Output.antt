@@ -1,5 +1,5 @@
 -- Document 02, T-01, and its program `from_session`: what goes to standard output and to standard error for the session file on standard input.
-use Rattle.std.specs.Prelude.{ℕ, ◌+◌, ◌≡◌, List, [], ◌++◌, take, Ok, Err}
+use Rattle.std.specs.Prelude.{ℕ, ◌+◌, ◌≡◌, List, [], ◌++◌, Ok, Err}
 use Rattle.bits.specs.Lists.{ReadFrom}
 use Rattle.refusal.specs.Refusals.{number_of}
 use Rattle.text.specs.Text.{ascii, decimal, field}
@@ -29,6 +29,5 @@ abbrev pub message : List ℕ → List ℕ
 message input = message_of (reading input).answer
 
 -- both, for every input from which a buffer and the count of its bytes were read
-abbrev pub AllWritten : List ℕ → ℕ → List ℕ → ℕ → List ℕ → ℕ → Type 0
-AllWritten buffer size out end errors last =
-    (input : List ℕ) → ReadFrom buffer size input → (take end out ≡ frames input) × (take last errors ≡ message input)
+abbrev pub AllWritten : List ℕ → ℕ → List ℕ → List ℕ → Type 0
+AllWritten buffer size out errors = (input : List ℕ) → ReadFrom buffer size input → (out ≡ frames input) × (errors ≡ message input)

@@ -17,7 +17,7 @@ fn main(rt: HostRuntime) -> io::Result<()> {
     let size = console::read_full(&mut rt.stdin(), &mut input)?;
     let mut out = [0u8; 14000];
     let mut message = [0u8; 60];
-    let ends = messages::read_file(&input, size, &mut out, &mut message);
-    rt.stdout().write_all(&out[..ends.frames])?;
-    rt.stderr().write_all(&message[..ends.message])
+    let written = messages::read_file(&input, size, &mut out, &mut message);
+    rt.stdout().write_all(written.frames)?;
+    rt.stderr().write_all(written.message)
 }

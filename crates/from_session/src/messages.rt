@@ -14,11 +14,11 @@ const REFUSED: Name = *b"refused=........";
 
 const LINE: Name = *b" line=..........";
 
-// Where the frames end, and the line of a refusal.
-#[derive(Clone, Copy)]
-pub(crate) struct Ends {
-    pub(crate) frames: usize,
-    pub(crate) message: usize,
+// The frames, and the line of a refusal.
+#[derive(Clone, Copy, Debug, PartialEq, Eq)]
+pub(crate) struct Written<'a> {
+    pub(crate) frames: &'a [u8],
+    pub(crate) message: &'a [u8],
 }
 
 // The line of a refusal; where it ends.
@@ -31,20 +31,30 @@ fn write_message(refused: LineRefusal, out: &mut [u8]) -> usize
     place(b"\n", out, end).unwrap_or(end)
 }
 
-// The frames and the line for the standard input of which the first `size` bytes of a buffer were read.
-pub(crate) fn read_file(input: &[u8], size: usize, out: &mut [u8], message: &mut [u8]) -> Ends
+// The frames and the line for the standard input of which the first `size` bytes of a buffer were read. The buffer comes whole, since
+// its length says how much of a long input was read: `most_input` holds `main` to it.
+pub(crate) fn read_file<'a>(
+    input: &[u8],
+    size: usize,
+    out: &'a mut [u8],
+    message: &'a mut [u8],
+) -> Written<'a>
     requires input_len { (length input.now ≡ most_input) × IsPrefixLen size input.now }
     requires out_len { (length out.old ≡ 7 * most_frames) × (length message.old ≡ 60) }
-    ensures frames { IsPrefixLen result.frames out.new }
-    ensures message { IsPrefixLen result.message message.new }
-    ensures written { AllWritten input.now size out.new result.frames message.new result.message }
+    ensures { AllWritten input.now size result.frames.now result.message.now }
 {
     let copied = copy_frames(&input[..size], out);
-    Ends {
-        frames: copied.end,
-        message: match copied.answer {
-            Ok(_) => 0,
-            Err(refused) => write_message(refused, message),
+    match copied.answer {
+        Ok(_) => Written {
+            frames: &out[..copied.end],
+            message: &[],
         },
+        Err(refused) => {
+            let end = write_message(refused, message);
+            Written {
+                frames: &out[..copied.end],
+                message: &message[..end],
+            }
+        }
     }
 }
