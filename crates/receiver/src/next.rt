@@ -29,11 +29,10 @@ impl ValidRecord {
     fn after(self, last: ParameterSet, g2: u8, kind: FrameKind) -> Record
         ensures { result ≡ counted last g2 (pushed self.rec.kinds kind) }
     {
-        let kinds = self.rec.kinds;
         Record {
             last,
             g2,
-            kinds: push(kinds, kind),
+            kinds: push(self.rec.kinds, kind),
             repeats: self.repeats_after(kind),
         }
     }

@@ -45,7 +45,8 @@ pub fn receive(rec: Record, frame: &[u8], order: &[u8]) -> Received
     }
 }
 
-// The same, with the record changed in the caller's memory.
+// The same, with the record changed in the caller's memory. The call with confidences has the same lines: a function of them
+// would be handed the record beside what was received, and is no plainer.
 pub fn receive_in_place(
     rec: &mut Record,
     frame: &[u8],

@@ -11,8 +11,7 @@ use refusal::Refusal;
 fn answer_of(old: OldRecord) -> Result<(), Refusal>
     ensures { result ≡ old_answer old }
 {
-    let last = old.last;
-    if in_ranges(last, old.g2) {
+    if in_ranges(old.last, old.g2) {
         Ok(())
     } else {
         Err(Refusal::InvalidRecord)
@@ -24,16 +23,14 @@ fn answer_of(old: OldRecord) -> Result<(), Refusal>
 pub fn take_over(old: OldRecord) -> TakenOver
     ensures { result ≡ taken_over old }
 {
-    let last = old.last;
     let kinds = old.kinds;
-    let next = Record {
-        last,
-        g2: old.g2,
-        kinds,
-        repeats: count_repeats(kinds),
-    };
     TakenOver {
         answer: answer_of(old),
-        next,
+        next: Record {
+            last: old.last,
+            g2: old.g2,
+            kinds,
+            repeats: count_repeats(kinds),
+        },
     }
 }

@@ -11,19 +11,17 @@ use sets::{Indices, ParameterSet, is_in_range};
 pub fn fresh() -> Record
     ensures { result ≡ fresh }
 {
-    let last = ParameterSet::Unvoiced(Indices {
-        l1: 0,
-        l2: 0,
-        l3: 0,
-        l4: 0,
-        g2: 0,
-        g1: 0,
-    });
-    let kinds = [FrameKind { repeat: false }; 16];
     Record {
-        last,
+        last: ParameterSet::Unvoiced(Indices {
+            l1: 0,
+            l2: 0,
+            l3: 0,
+            l4: 0,
+            g2: 0,
+            g1: 0,
+        }),
         g2: 0,
-        kinds,
+        kinds: [FrameKind { repeat: false }; 16],
         repeats: 0,
     }
 }
@@ -35,11 +33,9 @@ pub(crate) fn in_ranges(last: ParameterSet, g2: u8) -> bool
     is_in_range(last) & (g2 < 32)
 }
 
-// Whether they are, and the number of repeats is that of the kinds; a record that fails is refused with 4.
+// Whether they are, and the number of repeats is that of the kinds; a record that fails is refused.
 pub fn is_valid(rec: Record) -> bool
     ensures { result ≡ valid rec }
 {
-    let last = rec.last;
-    let kinds = rec.kinds;
-    in_ranges(last, rec.g2) & (rec.repeats == count_repeats(kinds))
+    in_ranges(rec.last, rec.g2) & (rec.repeats == count_repeats(rec.kinds))
 }
