@@ -7,13 +7,14 @@ ghost use Rattle.session_claims.specs.Reading.{reading};
 use session_reader::LineRefusal;
 
 // Where the frames end, and the answer of the reader after them.
-#[derive(Clone, Copy)]
+#[derive(Clone, Copy, Debug, PartialEq, Eq)]
 pub(crate) struct Copied {
     pub(crate) end: usize,
     pub(crate) answer: Result<Option<[u8; 7]>, LineRefusal>,
 }
 
-// The frames of a text to the front of `out`, until the reader hands on none.
+// The frames of a text to the front of `out`, until the reader hands on none. `Reader::next` hands back the reader after it, and so is no
+// iterator: the text and the offset are kept here.
 pub(crate) fn copy_frames(text: &[u8], out: &mut [u8]) -> Copied
     requires { 7 * most_frames ≤ length out.old }
     ensures answer { result.answer ≡ (reading text.now).answer }

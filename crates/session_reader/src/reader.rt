@@ -7,14 +7,14 @@ use crate::Step;
 use crate::steps::parse_at;
 
 // A text and an offset in it.
-#[derive(Clone, Copy)]
+#[derive(Clone, Copy, Debug, PartialEq, Eq)]
 pub struct Reader<'a> {
     text: &'a [u8],
     at: usize,
 }
 
 // One step, and the reader after it.
-#[derive(Clone, Copy)]
+#[derive(Clone, Copy, Debug, PartialEq, Eq)]
 pub struct Handed<'a> {
     pub step: Step,
     pub rest: Reader<'a>,

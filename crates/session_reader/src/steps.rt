@@ -6,7 +6,8 @@ use crate::Step;
 use refusal::Refusal;
 use session_lines::{Header, LineRefusal, read_frame, read_header};
 
-// The refusal of the line after those of k frames; lines count from 1.
+// The refusal of the line after those of k frames; lines count from 1. The definitions `frame_step` and `last_step`, on which the
+// claims of session files stand, go by k, so each contract has its bound.
 fn refused(refusal: Refusal, k: usize) -> Result<Option<[u8; 7]>, LineRefusal>
     requires { k < 10000 }
     ensures { result ≡ refused refusal (k + 4) }
