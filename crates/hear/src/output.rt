@@ -21,22 +21,16 @@ pub(crate) fn nothing() -> Sent
     Sent { count: 0 }
 }
 
-// Sends the first bytes of the buffer, which are those of the text after the sent ones. A writer that tells what it
-// holds holds them then, and a front of them where the sending fails.
-pub(crate) fn send<W: Write>(
-    to: &mut W,
-    bytes: &[u8],
-    out: &[u8],
-    sent: Sent,
-    end: usize,
-) -> io::Result<Sent>
-    requires { (end ≤ length out.now) × (take end out.now ≡ take end (drop sent.count (text bytes.now))) × (sent.count + end ≤ 2000000) }
-    ensures count { IfOk result (λ s. s.count ≡ sent.count + end) }
-    ensures written { OnOk result (Appends (W.contents to.old) (W.contents to.new) (take end out.now)) }
-    ensures failed { OnErr result (AppendsFront (W.contents to.old) (W.contents to.new) (take end out.now)) }
+// Sends a part of the text, the one after the sent bytes. A writer that tells what it holds holds it then, and a front of it where
+// the sending fails.
+pub(crate) fn send<W: Write>(to: &mut W, bytes: &[u8], part: &[u8], sent: Sent) -> io::Result<Sent>
+    requires { (part.now ≡ take (length part.now) (drop sent.count (text bytes.now))) × (sent.count + length part.now ≤ 2000000) }
+    ensures count { IfOk result (λ s. s.count ≡ sent.count + length part.now) }
+    ensures written { OnOk result (Appends (W.contents to.old) (W.contents to.new) part.now) }
+    ensures failed { OnErr result (AppendsFront (W.contents to.old) (W.contents to.new) part.now) }
 {
-    console::write_all(to, &out[..end])?;
+    console::write_all(to, part)?;
     Ok(Sent {
-        count: sent.count + end,
+        count: sent.count + part.len(),
     })
 }

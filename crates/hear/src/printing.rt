@@ -32,13 +32,14 @@ fn make_room<W: Write>(
         return Ok(before);
     }
     Ok(Progress {
-        sent: send(to, bytes, out, before.sent, before.end)?,
+        sent: send(to, bytes, &out[..before.end], before.sent)?,
         end: 0,
         ..before
     })
 }
 
-// All whole frames; the first line waits in the buffer.
+// All whole frames; the first line waits in the buffer. The loop counts, since a frame's number stands in its line and in what is
+// promised of it.
 fn print_frames<W: Write>(
     to: &mut W,
     bytes: &[u8],
@@ -79,10 +80,11 @@ fn print_text<W: Write>(to: &mut W, bytes: &[u8], out: &mut [u8]) -> io::Result<
         out,
         ready.end,
     ).unwrap_or(ready.end);
-    send(to, bytes, out, ready.sent, end)
+    send(to, bytes, &out[..end], ready.sent)
 }
 
-// All that is printed for the standard input of which the first `size` bytes of a buffer for 9,362 frames were read.
+// All that is printed for the standard input of which the first `size` bytes of a buffer for 9,362 frames were read. The buffer comes
+// whole, since its length says how much of a long input was read: `most_bytes` holds `main` to it.
 pub(crate) fn print_call<W: Write>(to: &mut W, input: &[u8], size: usize) -> io::Result<Sent>
     requires { (length input.now ≡ most_bytes) × IsPrefixLen size input.now }
     ensures printed { IfOk result (λ s. AllPrinted input.now size s.count) }

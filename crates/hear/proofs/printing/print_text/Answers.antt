@@ -1,9 +1,9 @@
 -- `hear::printing::print_text` meets its contract: with the last line the whole text is sent or waits, and what waits is sent. Assumes nothing.
-use mathlib.Core.Path.{◌≡◌, refl, subst, ◌∙◌}
+use mathlib.Core.Path.{◌≡◌, refl, sym, ap, subst, ◌∙◌}
 use Prim.Native.Nat.{◌+◌, ◌≤◌}
 use native.Mathlib.Omega.{arith}
 use lib.ListN.{length, take}
-use lib.Seq.{take_all}
+use lib.Seq.{take_all, length-take-le}
 use Rattle.std.specs.Io.KnownBytes.{Appends}
 use Rattle.std.proofs.lemmas.Result.{IfOk-weaker, on_ok_weaker, on_err_weaker}
 use Rattle.console.specs.Fronts.{AppendsFront}
@@ -39,17 +39,33 @@ whole g c =
     let q = line_added (last_line (frames_in bytes) r.repeats (left_in bytes)) _ _ r.end 144 _ _ (l.answer, (l.written, l.bound)) c.unwrap_or-end.ensures (search rules) in
     (whole_waits bytes _ _ r.repeats r.sent.count r.end _ (m.repeats ∙ c.in_ok-printed.ensures.repeats) m.pending q.0, q.1)
 
+-- there is room for what waits then, and it is as long as that
+fits : (g : Over) (c : After-unwrap_or-end g) → c.unwrap_or-end.result ≤ length c.last_line.new.out
+fits g c = omega (arith, (whole g c).1, c.in_ok-ready.ensures.room, c.requires)
+
+size : (g : Over) (c : After-unwrap_or-end g) → length (take c.unwrap_or-end.result c.last_line.new.out) ≡ c.unwrap_or-end.result
+size g c = length-take-le c.unwrap_or-end.result c.last_line.new.out (fits g c)
+
+pub slice_bounds-send-end : goal.slice_bounds-send-end
+slice_bounds-send-end g c = fits g (goal.at.slice_bounds-send-end g c).After-unwrap_or-end
+
+pub slice_bounds-send-end-2 : goal.slice_bounds-send-end-2
+slice_bounds-send-end-2 g c = sym (size g (goal.at.slice_bounds-send-end-2 g c).After-unwrap_or-end)
+
 pub send-requires : goal.send-requires
 send-requires g c =
     let w = whole g (goal.at.send-requires g c).After-unwrap_or-end in
     let m = c.in_ok-ready.ensures in
     let f = c.in_ok-printed.ensures in
-    (search rules, whole_part c.args.bytes.now _ _ _ w.0, omega (arith, w.1, m.room, m.pending.0, f.pending.0, f.count))
+    let l = size g (goal.at.send-requires g c).After-unwrap_or-end in
+    (rw l (whole_part c.args.bytes.now _ _ _ w.0), omega (arith, l, w.1, m.room, m.pending.0, f.pending.0, f.count))
 
 pub returns-clause-count : goal.returns-clause-count
 returns-clause-count g c =
     let w = whole g (goal.at.returns-clause-count g c).After-unwrap_or-end in
-    let to_whole : (s : Sent) → s.count ≡ c.in_ok-ready.ready.sent.count + c.unwrap_or-end.result → s.count ≡ length (text c.args.bytes.now) = λ s e. e ∙ w.0.0 in
+    let part = take c.unwrap_or-end.result c.last_line.new.out in
+    let to_whole : (s : Sent) → s.count ≡ c.in_ok-ready.ready.sent.count + length part → s.count ≡ length (text c.args.bytes.now) =
+    λ s e. e ∙ ap (λ n. c.in_ok-ready.ready.sent.count + n) (size g (goal.at.returns-clause-count g c).After-unwrap_or-end) ∙ w.0.0 in
     IfOk-weaker c.send.result _ _ to_whole c.send.ensures.count
 
 pub returns-clause-written : goal.returns-clause-written
