@@ -11,8 +11,8 @@ pub(crate) fn pack_input(input: &[u8], out: &mut [u8]) -> usize
     ensures size { IsPrefixLen result out.new }
     ensures written { out.new ≡ input_sent input.now ++ drop result out.old }
 {
-    if input.len() < 54 {
+    let Some((order, sets)) = input.split_first_chunk::<54>() else {
         return 0;
-    }
-    set_frames::pack_sets(&input[54..], &input[..54], out).unwrap()
+    };
+    set_frames::pack_sets(sets, order, out).unwrap()
 }
