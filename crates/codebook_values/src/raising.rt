@@ -14,6 +14,7 @@ pub(crate) fn write_raised(rows: &Rows<'_>, out: &mut [i64])
     ensures { out.new ≡ raised spacing (sums rows.now) ++ drop 10 out.old }
 {
     let mut least = SPACING;
+    // by index: four rows are read where a value is written
     for k in 0..10 {
         let value = rows.sum_at(k).max(least);
         out[k] = value;

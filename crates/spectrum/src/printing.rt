@@ -7,7 +7,7 @@ use crate::lines::write_text;
 use crate::values::of_frame;
 
 // All that is printed, to the front of `out`, and how many bytes it is. Each input is lent in a buffer of its own
-// size, with how many bytes of it came.
+// size, with how many bytes of it came: a slice of what came would say nothing of `main` reading enough of it.
 pub(crate) fn write_printed(
     input: &[u8; 8],
     n: usize,
