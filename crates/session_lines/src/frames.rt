@@ -35,7 +35,8 @@ fn hex_byte(high: u8, low: u8) -> u8
     16 * hex_value(high) + hex_value(low)
 }
 
-// The seven bytes of 14 digits.
+// The seven bytes of 14 digits. It is called and not copied into its caller: so the compiler makes many at once.
+#[inline(never)]
 fn seven_bytes(digits: &[u8; 14]) -> [u8; 7]
     requires { all_hex digits.now ≡ true }
     ensures { result ≡ hex_bytes digits.now }
