@@ -1,5 +1,5 @@
 -- Helpers of a measurement, no part of document 01: all numbers that a frame is answered, added up, and a number in bytes.
-use Rattle.std.specs.Prelude.{ℕ, ◌+◌, ◌-◌, ◌/◌, ◌%◌, ◌^◌, List, Result, Ok, Err}
+use Rattle.std.specs.Prelude.{ℕ, ◌+◌, ◌-◌, ◌/◌, ◌%◌, ◌^◌, List, [], ◌∷◌, Result, Ok, Err}
 use Rattle.bits.specs.Bits.{bit_num, cut}
 use Rattle.refusal.specs.Refusals.{number_of}
 use Rattle.refusal.specs.declared.Refusal.{Refusal}
@@ -7,9 +7,11 @@ use Rattle.sets.specs.declared.Indices.{Indices}
 use Rattle.sets.specs.declared.Voicing.{Voicing}
 use Rattle.sets.specs.declared.ParameterSet.{ParameterSet}
 use Rattle.sets.specs.declared.ParameterSet.TheVariants as set
+use Rattle.records.specs.declared.Record.{Record}
 use Rattle.receiver.specs.declared.Kind.{Kind}
 use Rattle.receiver.specs.declared.Kind.TheVariants as kind
 use Rattle.receiver.specs.declared.FrameResult.{FrameResult}
+use Rattle.receiver.specs.declared.Received.{Received}
 
 -- of a set
 abbrev pub indices_sum : Indices → ℕ
@@ -35,6 +37,11 @@ result_sum r = kind_sum r.kind + set_sum r.set + (r.first + r.second) + (bit_num
 abbrev pub answer_sum : Result FrameResult Refusal → ℕ
 answer_sum (Ok r) = result_sum r
 answer_sum (Err f) = number_of f
+
+-- of frames that are received one after another from a record on: what each is answered, added up
+abbrev pub sum_from : (Record → List ℕ → Received) → Record → List (List ℕ) → ℕ
+sum_from receive rec [] = 0
+sum_from receive rec (frame ∷ frames) = answer_sum (receive rec frame).answer + sum_from receive (receive rec frame).next frames
 
 -- a number in eight bytes, most significant first
 abbrev pub eight_bytes : ℕ → List ℕ

@@ -1,0 +1,11 @@
+-- `answer_sums::frames::sum_of` meets its contract: what is added and what the other frames are answered make the whole sum. Assumes nothing.
+use Rattle.std.proofs.Common.{◌≡◌, ◌+◌, ◌*◌, ◌≤◌, length, drop}
+use Rattle.records.specs.Records.{fresh}
+use Rattle.answer_sums.specs.Sums.{sum_from}
+use Rattle.answer_sums.proofs.frames.sum_of.Given as goal
+
+abbrev pub invariant-loop-frame : goal.invariant-loop-frame
+invariant-loop-frame g l =
+    (l.sum + sum_from (g.R.Receive.received l.receiver) l.rec (drop l.frame-index l.frames) ≡ sum_from (g.R.Receive.received l.receiver) fresh l.frames)
+    × (l.sum ≤ 10000000000 * l.frame-index)
+    × (length l.frames ≤ 65534)
