@@ -15,9 +15,7 @@ pub(crate) fn lower(out: &mut [i64])
     ensures { out.new ≡ lowered highest (take 10 out.old) ++ drop 10 out.old }
 {
     let mut most = HIGHEST;
-    let mut at = 10;
-    while 0 < at {
-        at -= 1;
+    for at in (0..10).rev() {
         let value = out[at].min(most);
         out[at] = value;
         most = value - SPACING;

@@ -11,6 +11,3 @@ abbrev pub invariant-loop-at : goal.invariant-loop-at
 invariant-loop-at l =
     (l.at ≤ 10) × (length l.out ≡ length l.initial.out) × (nat_abs l.most + 50000000 * l.at ≤ 4450000000)
     × (l.most ≡ most_below highest (lowered highest (drop l.at (take 10 l.initial.out)))) × (l.out ≡ lowered_from highest l.at (take 10 l.initial.out) (drop 10 l.initial.out))
-
-abbrev pub decreases-loop-at : goal.decreases-loop-at
-decreases-loop-at l = l.at
