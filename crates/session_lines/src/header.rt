@@ -28,24 +28,25 @@ struct Count {
     digits: usize,
 }
 
-// The number in front of a text: four digits at most.
+// The number in front of a text: four digits at most. The turns are counted, and not those of a slice's iterator, which was slower: so
+// the compiler writes them out.
 fn count_in(text: &[u8]) -> Count
     ensures value { result.value ≡ digits_value 0 (take 4 text.now) }
     ensures digits { result.digits ≡ digits_in (take 4 text.now) }
     ensures bound { result.digits ≤ 4 }
 {
-    let front = &text[..text.len().min(4)];
     let mut value = 0;
-    for (i, c) in front.iter().enumerate() {
+    for i in 0..4 {
+        if text.len() <= i {
+            return Count { value, digits: i };
+        }
+        let c = text[i];
         if !c.is_ascii_digit() {
             return Count { value, digits: i };
         }
-        value = 10 * value + usize::from(*c - b'0');
+        value = 10 * value + usize::from(c - b'0');
     }
-    Count {
-        value,
-        digits: front.len(),
-    }
+    Count { value, digits: 4 }
 }
 
 // What the third line tells, in front of a text, if it is good: the number in it is not too high, has no `0` in front of
