@@ -19,7 +19,8 @@ pub fn large_buffer() -> [u8; 65536]
 }
 
 // Reads until the buffer is full or the input ends, and returns how many bytes it put at the front: the whole input, or as
-// much of it as the buffer takes. What follows stays unread. After a failed read nothing is said of the buffer.
+// much of it as the buffer takes. What follows stays unread. After a failed read nothing is said of the buffer. A turn takes as many
+// bytes as one read gives, so the loop counts them itself.
 pub fn read_full<R: Read>(input: &mut R, buf: &mut [u8]) -> io::Result<usize>
     ensures size { IfOk result (λ n. IsPrefixLen n buf.new) }
     ensures whole { IfOk result (λ n. IfSome (R.remaining input.old) (ReadFrom buf.new n)) }
@@ -37,8 +38,9 @@ pub fn read_full<R: Read>(input: &mut R, buf: &mut [u8]) -> io::Result<usize>
     Ok(done)
 }
 
-// One read, again where a signal cut it short. It is not made one with `write_retrying` by a closure: a proof would know nothing of
-// what a closure left of the input and the buffer that it borrowed, of which the clauses speak.
+// One read, again where a signal cut it short; the count is there since a loop has to end. It is not made one with `write_retrying`
+// by a closure: a proof would know nothing of what a closure left of the input and the buffer that it borrowed, of which the clauses
+// speak.
 fn read_retrying<R: Read>(input: &mut R, buf: &mut [u8]) -> io::Result<usize>
     ensures size { IfOk result (λ n. IsPrefixLen n buf.new) }
     ensures len { length buf.new ≡ length buf.old }
@@ -55,7 +57,7 @@ fn read_retrying<R: Read>(input: &mut R, buf: &mut [u8]) -> io::Result<usize>
 }
 
 // Writes all the bytes, one write after another. A writer that tells what it holds was given all of them then, and a
-// front of them where it ends in an error.
+// front of them where it ends in an error. A turn takes as many bytes as one write does, so the loop counts them itself.
 pub fn write_all<W: Write>(to: &mut W, bytes: &[u8]) -> io::Result<()>
     ensures whole { OnOk result (Appends (W.contents to.old) (W.contents to.new) bytes.now) }
     ensures part { OnErr result (AppendsFront (W.contents to.old) (W.contents to.new) bytes.now) }

@@ -1,4 +1,5 @@
-// Numbers in decimal, where there is room for them; where they end.
+// Numbers in decimal, where there is room for them; where they end. The buffer and the place stay two parameters, with the room for
+// the digits asked of each function: a struct of both would need one more clause in each, that it still lends the same buffer.
 ghost use Rattle.std.specs.Prelude.{◌≡◌, ◌+◌, ◌/◌, ◌%◌, ◌≤◌, ◌<◌, [], ◌∷◌, length};
 ghost use Rattle.bits.specs.Ascii.{digit_byte};
 ghost use Rattle.text.specs.Text.{decimal};
