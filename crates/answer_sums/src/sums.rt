@@ -38,7 +38,7 @@ fn of_set(set: ParameterSet) -> u64
     }
 }
 
-// A kind: 0, 1 or 2.
+// A kind: 0, 1 or 2, as `kind_sum` says, and not by the place of a variant in the receiver's type.
 fn of_kind(kind: Kind) -> u64
     ensures number { result ≡ kind_sum kind }
     ensures bound { result ≤ 2 }

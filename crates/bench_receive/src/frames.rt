@@ -22,7 +22,8 @@ impl Receive<7> for InOrder<'_> {
     }
 }
 
-// The sum in bytes, of an input: the order, 54 bytes, and then the frames.
+// The sum in bytes, of an input: the order, 54 bytes, and then the frames. bench_soft has its own, with another room in its
+// clause and its own receiver: what both share is `sum_of`, and one more parameter for these would be no plainer.
 pub(crate) fn sum_bytes(input: &[u8]) -> [u8; 8]
     requires { length input.now ≤ 65588 }
     ensures { result ≡ eight_bytes (input_sum input.now) }
