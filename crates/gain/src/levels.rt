@@ -1,5 +1,5 @@
 // From gain codes to levels (5.3.3).
-ghost use Rattle.std.specs.Prelude.{◌≡◌, ◌+◌, ◌*◌};
+ghost use Rattle.std.specs.Prelude.{◌≡◌, ◌+◌, ◌*◌, min};
 ghost use Rattle.gain.specs.Levels.{level, apart, mean, first_level, level_answer, first_level_answer};
 
 use refusal::Refusal;
@@ -18,7 +18,7 @@ fn first_level_of(g2: u8, code: u8, q: u8) -> u32
     if code == 0 {
         return mean_level(g2, q);
     }
-    level_of(g2).min(level_of(q)) - 1116 + (code as u32 - 1) * first_step(g2, q)
+    smaller_level(g2, q) - 1116 + (code as u32 - 1) * first_step(g2, q)
 }
 
 // The level of a second code, refused past 31.
@@ -49,6 +49,13 @@ fn mean_level(g2: u8, q: u8) -> u32
     ensures { result ≡ mean g2 q }
 {
     (level_of(g2) + level_of(q)) / 2
+}
+
+// The smaller of two second levels: the seven levels of codes 1 to 7 start below it.
+fn smaller_level(g2: u8, q: u8) -> u32
+    ensures { result ≡ min (level g2) (level q) }
+{
+    level_of(g2).min(level_of(q))
 }
 
 // The step between the seven levels of codes 1 to 7.

@@ -15,4 +15,4 @@ pub overflow_add-result : goal.overflow_add-result
 overflow_add-result c = omega (arith, mul-le-mul {n₁ = c.args.code - 1} {m₁ = c.first_step.result} {n₂ = 255} {m₂ = 20000} (omega arith) (omega arith))
 
 pub returns : goal.returns
-returns c = simp (first_is c.args.g2 c.args.q c.args.code c.if-code-eq0.false, c.min.ensures, c.level_of-2.ensures, c.level_of.ensures, c.first_step.ensures)
+returns c = simp (first_is c.args.g2 c.args.q c.args.code c.if-code-eq0.false, c.smaller_level.ensures, c.first_step.ensures)
