@@ -1,6 +1,5 @@
 // The sum over frames that stand one after another.
-ghost use Rattle.std.specs.Prelude.{◌≡◌, ℕ, ◌/◌, ◌<◌, ◌≤◌, List, length};
-ghost use Rattle.std.specs.Simd.{first_chunks};
+ghost use Rattle.std.specs.Prelude.{◌≡◌, ℕ, ◌*◌, ◌≤◌, min, List, length};
 ghost use Rattle.records.specs.declared.Record.{Record};
 ghost use Rattle.records.specs.Records.{fresh};
 ghost use Rattle.receiver.specs.declared.Received.{Received};
@@ -19,18 +18,17 @@ pub trait Receive<const N: usize> {
         ensures { result ≡ received self.now rec frame.now };
 }
 
-// All numbers that the whole frames of a text are answered, added up, received one after another from a fresh record on.
-pub fn sum_of<const N: usize, R: Receive<N>>(receiver: &R, bytes: &[u8]) -> u64
-    requires size { (0 < N) × (N < 256) }
-    requires room { length bytes.now ≤ 65534 }
-    ensures { result ≡ sum_from (R.received receiver.now) fresh (first_chunks N (length bytes.now / N) bytes.now) }
+// All numbers that frames are answered, added up, received one after another from a fresh record on; the largest number where the
+// sum is larger.
+pub fn sum_of<const N: usize, R: Receive<N>>(receiver: &R, frames: &[[u8; N]]) -> u64
+    ensures sum { result ≡ min (sum_from (R.received receiver.now) fresh frames.now) 18446744073709551615 }
+    ensures bound { result ≤ 10000000000 * length frames.now }
 {
-    let (frames, _) = bytes.as_chunks::<N>();
     let mut rec = fresh();
-    let mut sum = 0;
+    let mut sum: u64 = 0;
     for frame in frames {
         let received = receiver.receive(rec, frame);
-        sum += of_answer(received.answer);
+        sum = sum.saturating_add(of_answer(received.answer));
         rec = received.next;
     }
     sum

@@ -31,5 +31,6 @@ pub(crate) fn sum_bytes(input: &[u8]) -> [u8; 8]
     let Some((order, frames)) = input.split_first_chunk::<54>() else {
         return eight_bytes(0);
     };
-    eight_bytes(sum_of::<61, _>(&InOrder { order }, frames))
+    let (frames, _) = frames.as_chunks::<61>();
+    eight_bytes(sum_of(&InOrder { order }, frames))
 }

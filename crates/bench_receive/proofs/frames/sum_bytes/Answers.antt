@@ -1,11 +1,13 @@
 -- `bench_receive::frames::sum_bytes` meets its contract: the order stands in front, and the frames that follow are summed. Assumes nothing.
 use mathlib.Core.Path.{◌≡◌, sym, ap, ap₂, ◌∙◌}
 use mathlib.Core.List.{List}
-use Prim.Native.Nat.{ℕ, ◌<◌}
+use Prim.Native.Nat.{ℕ, ◌<◌, ◌≤◌, ◌/◌}
 use native.Mathlib.Omega.{arith}
-use lib.ListN.{length, take, drop, drop_of_length-le}
+use lib.ListN.{length, take, drop, length-drop, drop_of_length-le}
 use borrow.Author.Rules.{rules}
-use Rattle.answer_sums.specs.Sums.{eight_bytes}
+use Rattle.records.specs.Records.{fresh}
+use Rattle.answer_sums.specs.Sums.{sum_from, eight_bytes}
+use Rattle.answer_sums.proofs.Exact.{sum_exact}
 use Rattle.bench_receive.specs.Sums.{frames_sum, input_sum}
 use Rattle.bench_receive.proofs.frames.sum_bytes.Goals as goal
 
@@ -22,4 +24,7 @@ pub returns : goal.returns
 returns c =
     let ord : c.in-Some.order.now ≡ take 54 c.args.input.now = search rules in
     let rest : c.in-Some.frames.now ≡ drop 54 c.args.input.now = search rules in
-    c.eight_bytes-2.ensures ∙ ap eight_bytes (c.sum_of.ensures ∙ ap₂ frames_sum ord rest)
+    let count : length c.as_chunks.result.0.now ≡ length c.in-Some.frames.now / 7 = c.as_chunks.ensures.front_len in
+    let few : length c.as_chunks.result.0.now ≤ 65588 = omega (arith, count, ap length rest, length-drop 54 c.args.input.now, c.requires) in
+    let whole = sum_exact _ _ _ c.sum_of.ensures.sum c.sum_of.ensures.bound few in
+    c.eight_bytes-2.ensures ∙ ap eight_bytes (whole ∙ ap (sum_from _ fresh) c.as_chunks.ensures.front ∙ ap₂ frames_sum ord rest)
