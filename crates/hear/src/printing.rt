@@ -17,10 +17,10 @@ fn make_room<W: Write>(
     before: Progress,
     bytes: &[u8],
     k: usize,
-    out: &[u8],
+    out: &[u8; 65536],
 ) -> io::Result<Progress>
     requires k_bound { (k ≤ frames_in bytes.now) × Pending (text_before bytes.now k) before.sent.count before.end out.now }
-    requires out_len { (length out.now ≡ 65536) × (before.end ≤ 65536) × (before.sent.count + before.end ≤ 2000000) }
+    requires out_len { (before.end ≤ 65536) × (before.sent.count + before.end ≤ 2000000) }
     ensures record { IfOk result (λ r. r.rec ≡ before.rec) }
     ensures repeats { IfOk result (λ r. r.repeats ≡ before.repeats) }
     ensures pending { IfOk result (λ r. Pending (text_before bytes.now k) r.sent.count r.end out.now) }
@@ -43,10 +43,10 @@ fn make_room<W: Write>(
 fn print_frames<W: Write>(
     to: &mut W,
     bytes: &[u8],
-    out: &mut [u8],
+    out: &mut [u8; 65536],
     end: usize,
 ) -> io::Result<Progress>
-    requires { (length bytes.now ≤ 65534) × (length out.old ≡ 65536) × Pending (text_before bytes.now 0) 0 end out.old }
+    requires { (length bytes.now ≤ 65534) × Pending (text_before bytes.now 0) 0 end out.old }
     ensures repeats { IfOk result (λ r. r.repeats ≡ repeats_before bytes.now (frames_in bytes.now)) }
     ensures count { IfOk result (λ r. r.sent.count + r.end ≤ 1400000) }
     ensures pending { IfOk result (λ r. Pending (text_before bytes.now (frames_in bytes.now)) r.sent.count r.end out.new) }
@@ -62,8 +62,8 @@ fn print_frames<W: Write>(
 }
 
 // The whole text; in the end as many bytes are sent as it has.
-fn print_text<W: Write>(to: &mut W, bytes: &[u8], out: &mut [u8]) -> io::Result<Sent>
-    requires { (length bytes.now ≤ 65534) × (length out.old ≡ 65536) }
+fn print_text<W: Write>(to: &mut W, bytes: &[u8], out: &mut [u8; 65536]) -> io::Result<Sent>
+    requires { length bytes.now ≤ 65534 }
     ensures count { IfOk result (λ s. s.count ≡ length (text bytes.now)) }
     ensures written { OnOk result (Appends (W.contents to.old) (W.contents to.new) (text bytes.now)) }
     ensures failed { OnErr result (AppendsFront (W.contents to.old) (W.contents to.new) (text bytes.now)) }

@@ -12,7 +12,7 @@ send-requires g c =
     let b = a.before in
     let n = pending_part a.bytes.now a.out.now a.k b.sent.count b.end c.requires.k_bound.0 c.requires.k_bound.1 in
     let l = length-take-le b.end a.out.now (omega (arith, c.requires.out_len)) in
-    (rw l n, omega (arith, l, c.requires.out_len.2))
+    (rw l n, omega (arith, l, c.requires.out_len.1))
 
 pub returns-clause-written : goal.returns-clause-written
 returns-clause-written g c =

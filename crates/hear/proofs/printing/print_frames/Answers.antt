@@ -10,7 +10,6 @@ use Rattle.order.specs.Order.{default_order}
 use Rattle.receiver.specs.Frames.{answer_at, record_after}
 use Rattle.hear.specs.Call.{repeat_of, text_before, repeats_before, text, Pending}
 use Rattle.hear.proofs.Buffer.{pending_more}
-use borrow.Author.Rules.{rules}
 use Rattle.hear.proofs.printing.print_frames.Goals as goal
 
 pub loop-k-init : goal.loop-k-init
@@ -19,10 +18,10 @@ loop-k-init g c =
     let a = c.args in
     let b = c.begin-progress.ensures in
     let p = c.begin-progress.result in
-    let w : Pending (text_before a.bytes.now 0) p.sent.count p.end a.out.now = rw b.sent (rw b.end c.requires.2) in
+    let w : Pending (text_before a.bytes.now 0) p.sent.count p.end a.out.now = rw b.sent (rw b.end c.requires.1) in
     let held = g.W.Write.contents a.to.now in
     let none : Appends held held (take p.sent.count (text a.bytes.now)) = rw b.sent (Appends-nil held) in
-    ((refl, omega arith, refl), (b.«record», b.repeats, omega (arith, b.repeats)), (w, omega (arith, w.0), omega (arith, w.0)), none)
+    ((refl, omega arith), (b.«record», b.repeats, omega (arith, b.repeats)), (w, omega (arith, w.0), omega (arith, w.0)), none)
 
 pub loop-k-preserved : goal.loop-k-preserved
 unfolding text_before repeats_before
@@ -36,7 +35,7 @@ loop-k-preserved g c =
     ap (λ n. n + repeat_of (answer_at default_order bytes L.k)) (r.repeats ∙ L.invariant.1.1) in
     let w = pending_more (text_before bytes L.k) _ _ _ r.pending _ _ _ f.line in
     rw add-one (
-      (L.invariant.0.0, omega arith, search rules),
+      (L.invariant.0.0, omega arith),
       (f.«record», f.repeats ∙ n, f.count),
       (rw f.sent w, omega arith, omega arith),
       rw f.sent (r.written _ L.invariant.3),

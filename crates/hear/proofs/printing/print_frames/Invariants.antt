@@ -10,7 +10,7 @@ use Rattle.hear.proofs.printing.print_frames.Given as goal
 
 abbrev pub invariant-loop-k : goal.invariant-loop-k
 invariant-loop-k g l =
-    ((l.k-end ≡ length l.bytes / 7) × (l.k ≤ l.k-end) × (length l.out ≡ length l.initial.out))
+    ((l.k-end ≡ length l.bytes / 7) × (l.k ≤ l.k-end))
     × ((l.progress.rec ≡ record_after default_order l.bytes l.k) × (l.progress.repeats ≡ repeats_before l.bytes l.k) × (l.progress.repeats ≤ l.k))
     × (Pending (text_before l.bytes l.k) l.progress.sent.count l.progress.end l.out × (l.progress.end ≤ 65536) × (l.progress.sent.count + l.progress.end ≤ 22 + 144 * l.k))
     × Appends (g.W.Write.contents l.initial.to) (g.W.Write.contents l.to) (take l.progress.sent.count (text l.bytes))

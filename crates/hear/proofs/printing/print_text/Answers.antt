@@ -25,7 +25,7 @@ print_frames-requires g c =
     let size : length first_line ≤ 22 = omega arith in
     let w = c.first_line.ensures in
     let q = line_added first_line a.out.now _ 0 22 _ _ (w.answer, (w.written, size)) c.unwrap_or-first.ensures (omega (arith, c.requires)) in
-    (c.requires.0, search rules, (omega (arith, q.0.0), q.0.1))
+    (c.requires, (omega (arith, q.0.0), q.0.1))
 
 -- the whole text is sent or waits
 whole : (g : Over) (c : After-unwrap_or-end g)
@@ -46,11 +46,11 @@ fits g c = omega (arith, (whole g c).1, c.in_ok-ready.ensures.room, c.requires)
 size : (g : Over) (c : After-unwrap_or-end g) → length (take c.unwrap_or-end.result c.last_line.new.out) ≡ c.unwrap_or-end.result
 size g c = length-take-le c.unwrap_or-end.result c.last_line.new.out (fits g c)
 
-pub slice_bounds-send-end : goal.slice_bounds-send-end
-slice_bounds-send-end g c = fits g (goal.at.slice_bounds-send-end g c).After-unwrap_or-end
+pub shared_ref_as_front-send : goal.shared_ref_as_front-send
+shared_ref_as_front-send g c = omega (arith, (whole g (goal.at.shared_ref_as_front-send g c).After-unwrap_or-end).1, c.in_ok-ready.ensures.room)
 
-pub slice_bounds-send-end-2 : goal.slice_bounds-send-end-2
-slice_bounds-send-end-2 g c = sym (size g (goal.at.slice_bounds-send-end-2 g c).After-unwrap_or-end)
+pub slice_bounds-send-end : goal.slice_bounds-send-end
+slice_bounds-send-end g c = sym (size g (goal.at.slice_bounds-send-end g c).After-unwrap_or-end)
 
 pub send-requires : goal.send-requires
 send-requires g c =
