@@ -1,4 +1,4 @@
--- What packing set k owes: its bytes are those of no set, or the set in them is packed into the tail of the output.
+-- What packing the bytes of set k owes: they are those of no set, or the set in them is packed into the tail of the output.
 -- Assumes nothing.
 use mathlib.Core.Path.{◌≡◌, refl, sym, ap, ap₂, ◌∙◌}
 use mathlib.Core.Bool.{Bool, true, false, not, ◌&&◌, cond}
@@ -18,14 +18,11 @@ use Rattle.frame.specs.Layout.{frame}
 use Rattle.frame.specs.Packing.{set_refusal, pack_answer, pack_writes}
 use Rattle.frame.proofs.Answers.{tested_owes}
 use Rattle.set_bytes.specs.SetBytes.{set_in, read_answer}
-use Rattle.set_frames.specs.Sending.{bytes_at, taken, frame_of, bytes_refusal, set_answer, set_writes}
+use Rattle.set_frames.specs.Sending.{taken, frame_of, bytes_refusal, set_answer, set_writes}
 use Rattle.set_bytes.proofs.SetBytes.{answer_is as read_answer_is, answer_taken, answer_refused}
 use Rattle.set_frames.proofs.Tails.{tail_is, tail_back}
 
-module _ (ord input : List ℕ) (sync : Bool) (k : ℕ) (out : List ℕ) where
-  abbrev bytes : List ℕ
-  bytes = bytes_at input k
-
+module _ (ord bytes : List ℕ) (sync : Bool) (k : ℕ) (out : List ℕ) where
   -- what a call answers and leaves
   abbrev Owed : Result Bool Refusal → List ℕ → Type 0
   Owed answer after = (answer ≡ set_answer ord bytes sync) × (after ≡ set_writes ord bytes sync k out)
@@ -39,19 +36,14 @@ module _ (ord input : List ℕ) (sync : Bool) (k : ℕ) (out : List ℕ) where
     ap (λ (t : Bool). cond t (take (7 * k) out ++ (frame_of ord bytes sync ++ drop (7 * suc k) out)) out) (sym e),
   )
 
-  -- the bytes that are read: from 11 k on up to 11 k + 11
-  module _ (x : Result ParameterSet Refusal) (r : x ≡ read_answer (take (11 * k + 11 - 11 * k) (drop (11 * k) input))) where
-    read_is : read_answer bytes ≡ x
-    read_is =
-        let n : 11 * k + 11 - 11 * k ≡ 11 = omega arith in
-        sym (r ∙ ap (λ (m : ℕ). read_answer (take m (drop (11 * k) input))) n)
-
+  -- what reading them answers
+  module _ (x : Result ParameterSet Refusal) (r : x ≡ read_answer bytes) where
     -- they are those of no set
     pub form_owes : (f : Refusal) → x ≡ Err f → Owed (Err f) out
     unfolding taken
     form_owes f e =
-        let none = answer_refused bytes f (read_is ∙ e) in
-        let same : f ≡ OutOfRange = cc (read_is, e, read_answer_is bytes false none) in
+        let none = answer_refused bytes f (sym r ∙ e) in
+        let same : f ≡ OutOfRange = cc (r, e, read_answer_is bytes false none) in
         let o = taken_owes false (ap (λ (b : Bool). b && is_order ord && sendable (set_in bytes)) none) in
         (ap Err same ∙ ap (λ (b : Bool). Err (cond b (set_refusal ord) OutOfRange)) (sym none) ∙ o.0, o.1)
 
@@ -65,12 +57,12 @@ module _ (ord input : List ℕ) (sync : Bool) (k : ℕ) (out : List ℕ) where
       tail_room = omega (arith, length-drop (7 * k) out)
 
       set_is : set_in bytes ≡ set
-      set_is = (answer_taken bytes set (read_is ∙ e)).1
+      set_is = (answer_taken bytes set (sym r ∙ e)).1
 
       taken_is : taken ord bytes ≡ is_order ord && sendable set
       unfolding taken
       taken_is =
-          ap (λ (f : Bool). f && is_order ord && sendable (set_in bytes)) (answer_taken bytes set (read_is ∙ e)).0
+          ap (λ (f : Bool). f && is_order ord && sendable (set_in bytes)) (answer_taken bytes set (sym r ∙ e)).0
           ∙ ap (λ (s : ParameterSet). is_order ord && sendable s) set_is
 
       answer_is : answer ≡ pack_answer ord set sync (length tail)
@@ -94,7 +86,7 @@ module _ (ord input : List ℕ) (sync : Bool) (k : ℕ) (out : List ℕ) where
           → (Err (cond a OutOfRange InvalidOrder) ≡ pack_answer ord set sync (length tail)) × (tail ≡ pack_writes ord set sync tail) → Owed answer after
       refused_owes a f t q =
           let o = taken_owes false t in
-          let found = (answer_taken bytes set (read_is ∙ e)).0 in (
+          let found = (answer_taken bytes set (sym r ∙ e)).0 in (
             answer_is ∙ sym q.0 ∙ (λ i. Err (cond (sym found i) (cond (sym f i) OutOfRange InvalidOrder) OutOfRange)) ∙ o.0,
             after_is ∙ ap (λ (l : List ℕ). take (7 * k) out ++ l) (sym q.1) ∙ take-append-drop (7 * k) out ∙ o.1,
           )

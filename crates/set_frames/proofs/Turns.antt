@@ -79,7 +79,7 @@ module _ (ord bytes out₀ : List ℕ) (sync : Bool) (k : ℕ) (out : List ℕ) 
     -- by whether the bytes are taken
     turn_is : (b : Bool) → taken ord (bytes_at bytes k) ≡ b
         → (answer ≡ cond b (Ok (not sync)) (Err (bytes_refusal ord (bytes_at bytes k)))) × (after ≡ cond b (take (7 * k) out ++ (frame_of ord (bytes_at bytes k) sync ++ drop (7 * suc k) out)) out)
-    turn_is b e = let o = taken_owes ord bytes sync k out b e in (p.0 ∙ sym o.0, p.1 ∙ sym o.1)
+    turn_is b e = let o = taken_owes ord (bytes_at bytes k) sync k out b e in (p.0 ∙ sym o.0, p.1 ∙ sym o.1)
 
     -- a frame is packed: one more stands in front
     pub packed_owes : (next : Bool) → answer ≡ Ok next → SoFar ord bytes out₀ next (suc k) after

@@ -1,23 +1,23 @@
 // The frames of sets in bytes, one after another, in one order.
-ghost use Rattle.std.specs.Prelude.{◌≡◌, ◌++◌, ◌*◌, ◌≤◌, ◌<◌, length, drop};
-ghost use Rattle.set_frames.specs.Sending.{sets_in, bytes_at, set_answer, set_writes, sent, frames_answer, frames_writes};
+ghost use Rattle.std.specs.Prelude.{◌≡◌, suc, ◌++◌, ◌*◌, ◌≤◌, length, drop};
+ghost use Rattle.set_frames.specs.Sending.{sets_in, set_answer, set_writes, sent, frames_answer, frames_writes};
 
 use refusal::Refusal;
 
 // The frame of set k to its place in `out`, and the next sync bit. Refused: bytes that are not those of a set that a sender
 // takes; a list that is no order.
 fn pack_set(
-    bytes: &[u8],
+    bytes: &[u8; 11],
     k: usize,
     sync: bool,
     order: &[u8],
     out: &mut [u8],
 ) -> Result<bool, Refusal>
-    requires { (k < sets_in bytes.now) × (7 * sets_in bytes.now ≤ length out.old) }
-    ensures answer { result ≡ set_answer order.now (bytes_at bytes.now k) sync }
-    ensures written { out.new ≡ set_writes order.now (bytes_at bytes.now k) sync k out.old }
+    requires { 7 * suc k ≤ length out.old }
+    ensures answer { result ≡ set_answer order.now bytes.now sync }
+    ensures written { out.new ≡ set_writes order.now bytes.now sync k out.old }
 {
-    let set = set_bytes::read(&bytes[11 * k..11 * k + 11])?;
+    let set = set_bytes::read(bytes)?;
     frame::pack(set, sync, order, &mut out[7 * k..])
 }
 
@@ -30,14 +30,14 @@ fn pack_all(bytes: &[u8], order: &[u8], out: &mut [u8]) -> usize
     ensures written { out.new ≡ sent order.now bytes.now ++ drop result out.old }
 {
     let mut sync = frame::fresh_sync();
-    let count = bytes.len() / 11;
-    for k in 0..count {
-        let Ok(next) = pack_set(bytes, k, sync, order, out) else {
+    let (sets, _) = bytes.as_chunks::<11>();
+    for (k, set) in sets.iter().enumerate() {
+        let Ok(next) = pack_set(set, k, sync, order, out) else {
             return 7 * k;
         };
         sync = next;
     }
-    7 * count
+    7 * sets.len()
 }
 
 // The same, for any output. Refused: an output that has room for fewer frames than there are sets.
