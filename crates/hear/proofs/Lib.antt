@@ -1,3 +1,4 @@
 pub mod Buffer
+pub mod Chunks
 pub mod Example
 pub mod Extent

@@ -1,10 +1,10 @@
 // What the receiver makes of each frame, and its line.
-ghost use Rattle.std.specs.Prelude.{◌≡◌, suc, ◌+◌, ◌*◌, ◌≤◌, length};
+ghost use Rattle.std.specs.Prelude.{◌≡◌, suc, ◌+◌, ◌≤◌, ◌<◌, length};
 ghost use Rattle.order.specs.Order.{default_order};
 ghost use Rattle.records.specs.Records.{fresh};
 ghost use Rattle.report.specs.Lines.{frame_line};
 ghost use Rattle.text.specs.Placing.{Appended};
-ghost use Rattle.receiver.specs.Frames.{record_after, answer_at};
+ghost use Rattle.receiver.specs.Receiving.{receive};
 ghost use Rattle.hear.specs.Call.{repeat_of};
 
 use crate::output::{Sent, nothing};
@@ -54,18 +54,18 @@ fn repeat_of(answer: Result<FrameResult, Refusal>) -> u64
 }
 
 // Frame k: the receiver takes it, and its line is written.
-pub(crate) fn take_frame(before: Progress, bytes: &[u8], k: usize, out: &mut [u8]) -> Progress
-    requires k_in_bounds { (7 * suc k ≤ length bytes.now) × (before.end + 144 ≤ length out.old) × (before.repeats ≤ k) }
-    requires rec_value { before.rec ≡ record_after default_order bytes.now k }
-    ensures record { result.rec ≡ record_after default_order bytes.now (suc k) }
-    ensures repeats { result.repeats ≡ before.repeats + repeat_of (answer_at default_order bytes.now k) }
+pub(crate) fn take_frame(before: Progress, k: usize, frame: &[u8; 7], out: &mut [u8]) -> Progress
+    requires k_in_bounds { (k < 9362) × (before.repeats ≤ k) }
+    requires room { before.end + 144 ≤ length out.old }
+    ensures record { result.rec ≡ (receive default_order before.rec frame.now).next }
+    ensures repeats { result.repeats ≡ before.repeats + repeat_of (receive default_order before.rec frame.now).answer }
     ensures count { result.repeats ≤ suc k }
     ensures sent { result.sent.count ≡ before.sent.count }
-    ensures line { Appended out.old before.end (frame_line k (answer_at default_order bytes.now k)) out.new result.end }
+    ensures line { Appended out.old before.end (frame_line k (receive default_order before.rec frame.now).answer) out.new result.end }
     ensures bound { result.end ≤ before.end + 144 }
 {
     let order = order::default_order();
-    let Received { answer, next } = receiver::receive(before.rec, &bytes[7 * k..7 * k + 7], &order);
+    let Received { answer, next } = receiver::receive(before.rec, frame, &order);
     Progress {
         rec: next,
         repeats: before.repeats + repeat_of(answer),

@@ -38,8 +38,7 @@ fn make_room<W: Write>(
     })
 }
 
-// All whole frames; the first line waits in the buffer. The loop counts, since a frame's number stands in its line and in what is
-// promised of it.
+// All whole frames; the first line waits in the buffer.
 fn print_frames<W: Write>(
     to: &mut W,
     bytes: &[u8],
@@ -55,8 +54,9 @@ fn print_frames<W: Write>(
     ensures failed { OnErr result (AppendsFront (W.contents to.old) (W.contents to.new) (text bytes.now)) }
 {
     let mut progress = begin(end);
-    for k in 0..bytes.len() / 7 {
-        progress = take_frame(make_room(to, progress, bytes, k, out)?, bytes, k, out);
+    let (frames, _) = bytes.as_chunks::<7>();
+    for (k, frame) in frames.iter().enumerate() {
+        progress = take_frame(make_room(to, progress, bytes, k, out)?, k, frame, out);
     }
     Ok(progress)
 }

@@ -1,7 +1,7 @@
 -- `hear::printing::print_frames` meets its contract: after k turns k frames are received, and their lines are sent or wait. Assumes nothing.
 use mathlib.Core.Path.{◌≡◌}
-use Prim.Native.Nat.{◌+◌, ◌*◌, ◌/◌, ◌≤◌}
-use lib.ListN.{length, take}
+use Prim.Native.Nat.{◌+◌, ◌*◌, ◌≤◌}
+use lib.ListN.{take}
 use Rattle.std.specs.Io.KnownBytes.{Appends}
 use Rattle.order.specs.Order.{default_order}
 use Rattle.receiver.specs.Frames.{record_after}
@@ -10,7 +10,6 @@ use Rattle.hear.proofs.printing.print_frames.Given as goal
 
 abbrev pub invariant-loop-k : goal.invariant-loop-k
 invariant-loop-k g l =
-    ((l.k-end ≡ length l.bytes / 7) × (l.k ≤ l.k-end))
-    × ((l.progress.rec ≡ record_after default_order l.bytes l.k) × (l.progress.repeats ≡ repeats_before l.bytes l.k) × (l.progress.repeats ≤ l.k))
+    ((l.progress.rec ≡ record_after default_order l.bytes l.k) × (l.progress.repeats ≡ repeats_before l.bytes l.k) × (l.progress.repeats ≤ l.k))
     × (Pending (text_before l.bytes l.k) l.progress.sent.count l.progress.end l.out × (l.progress.end ≤ 65536) × (l.progress.sent.count + l.progress.end ≤ 22 + 144 * l.k))
     × Appends (g.W.Write.contents l.initial.to) (g.W.Write.contents l.to) (take l.progress.sent.count (text l.bytes))
