@@ -61,14 +61,13 @@ def facts():
 
 
 POINTS = [
-    ('1 enums with a refusal or an erasure beside a value', matches(r'enum \w+ \{[^}]*\b(Refused|Erased)\b[^}]*\}', re.M)),
+    ('1 enums of a value and a refusal or an erasure', matches(r'enum \w+ \{[^}]*\bRefused\b[^}]*\}|enum \w+ \{\s*\w+\([^)]*\),\s*Erased,\s*\}')),
     ('1 structs with the number of a refusal beside values', matches(r'struct \w+ \{[^}]*\brefusal: u8[^}]*\}')),
     ('1 functions that answer a number for a refusal, a line or a part', matches(r'fn (\w*refusal\w*|bad_line|part_of|refused)\([^{]*-> (u8|u16)\b')),
     ('1 matches on a number of a kind', matches(r'match kind \{')),
     ('2 groups of functions of one shape', twins()),
     ('3 loops over an index or a condition', matches(r'^ *(for \w+ in [^{]*\.\.|while )[^{]*')),
     ('4 a bit as a number, smaller, larger and distance by hand', matches(r'if (\w+|\w+ < \w+|\w+ < \w+|\w+ == \d+) \{\s*[\w\' -]+\s*\} else \{\s*[\w\' -]+\s*\}')),
-    ('4 types without Debug, PartialEq', [m for m in matches(r'#\[derive\([^)]*\)\]') if 'PartialEq' not in m]),
     ('5 facts that three functions of a crate or more ask', facts()),
     ('6 a buffer and how much of it counts, as two parameters', matches(r'(input|lsf|magnitudes|text|buffer): &\[\w+(; \d+)?\],\s*(size|n|l|m): usize')),
     ('7 a function that a number or a kind chooses', matches(r'^ *(\d+( \| \d+)*|_) => \w+(::\w+)?\(.*\),$')),

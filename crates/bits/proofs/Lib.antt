@@ -5,6 +5,7 @@ pub mod Value
 pub mod Digits
 pub mod Bitwise
 pub mod Cut
+pub mod Chunks
 pub mod Front
 pub mod Buffers
 pub mod Numbers

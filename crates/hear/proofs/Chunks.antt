@@ -1,33 +1,21 @@
 -- std's chunks of seven bytes are the frames, and what the receiver makes of each. Assumes nothing.
-use mathlib.Core.Path.{◌≡◌, refl, ap, ◌∙◌}
-use mathlib.Core.List.{List, [], ◌∷◌}
-use Prim.Native.Nat.{ℕ, zero, suc, ◌+◌, ◌-◌, ◌*◌, ◌<◌}
-use native.Mathlib.Nat.{zero-add}
+use mathlib.Core.Path.{◌≡◌, ap, ◌∙◌}
+use mathlib.Core.List.{List, []}
+use Prim.Native.Nat.{ℕ, suc, ◌+◌, ◌-◌, ◌*◌, ◌<◌}
 use native.Mathlib.Omega.{arith}
 use lib.ListN.{get_or, take, drop}
-use lib.Seq.{drop-drop}
 use Rattle.std.specs.Simd.{first_chunks}
-use Rattle.bits.specs.Bits.{cut}
-use Rattle.bits.proofs.Cut.{cut_at}
+use Rattle.bits.proofs.Chunks
 use Rattle.order.specs.Order.{default_order}
 use Rattle.records.specs.declared.Record.{Record}
 use Rattle.receiver.specs.Receiving.{receive}
 use Rattle.receiver.specs.Frames.{frames_in, frame_at, record_after, answer_at}
 use Rattle.receiver.proofs.Frames.{answer_is, next_is}
 
-chunks_from : (bytes : List ℕ) (i n : ℕ) → first_chunks 7 n (drop (7 * i) bytes) ≡ cut (frame_at bytes) i n
-chunks_from bytes i zero = refl
-chunks_from bytes i (suc n) =
-    let rest : drop 7 (drop (7 * i) bytes) ≡ drop (7 * suc i) bytes = drop-drop 7 (7 * i) bytes ∙ ap (λ (k : ℕ). drop k bytes) (omega arith) in
-    ap (λ (l : List (List ℕ)). frame_at bytes i ∷ l) (ap (first_chunks 7 n) rest ∙ chunks_from bytes (suc i) n)
-
 module _ (bytes : List ℕ) (frames : List (List ℕ)) (k : ℕ) (e : frames ≡ first_chunks 7 (frames_in bytes) bytes) (h : k < frames_in bytes) where
   -- chunk k is frame k
   chunk_at : get_or frames k [] ≡ frame_at bytes k
-  chunk_at =
-      ap (λ (l : List (List ℕ)). get_or l k []) (e ∙ chunks_from bytes 0 (frames_in bytes))
-      ∙ cut_at [] (frame_at bytes) 0 (frames_in bytes) k h
-      ∙ ap (frame_at bytes) (zero-add k)
+  chunk_at = Chunks.chunk_at 7 bytes (frames_in bytes) k frames e h
 
   -- received after the frames before it
   pub chunk_received : (rec : Record) → rec ≡ record_after default_order bytes k

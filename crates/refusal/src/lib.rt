@@ -48,11 +48,3 @@ impl Refusal {
         }
     }
 }
-
-impl From<Refusal> for u8 {
-    ghost from_gives = { λ f n. n ≡ number_of f };
-
-    fn from(refusal: Refusal) -> u8 {
-        refusal.number()
-    }
-}

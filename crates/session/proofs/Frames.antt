@@ -11,6 +11,7 @@ use lib.Seq.{length-take-le, take_all, take_at, take-add, drop-drop, drop-append
 use borrow.Author.Tests.{eqb-true, leb-true, eq-eqb, le-leb}
 use Rattle.bits.specs.Bits.{cut}
 use Rattle.bits.specs.Lists.{Every}
+use Rattle.bits.proofs.Chunks
 use Rattle.bits.proofs.Cut.{cut_length, cut_ext, cut_suc}
 use Rattle.session.specs.Format.{most_frames}
 use Rattle.session.specs.Writing.{frame_at, frames_of, joined, is_whole}
@@ -32,15 +33,9 @@ pub whole_is : (bytes : List ℕ) → length bytes % 7 ≡ 0 → length bytes / 
 whole_is bytes r n = (and-eq-true_iff (eqb (length bytes % 7) 0) (leb (length bytes / 7) most_frames)).1 (eq-eqb _ 0 r, le-leb _ most_frames n)
 
 -- std's chunks of seven bytes are the frames
-chunks_from : (bytes : List ℕ) (i n : ℕ) → first_chunks 7 n (drop (7 * i) bytes) ≡ cut (frame_at bytes) i n
-chunks_from bytes i zero = refl
-chunks_from bytes i (suc n) =
-    let rest : drop 7 (drop (7 * i) bytes) ≡ drop (7 * suc i) bytes = drop-drop 7 (7 * i) bytes ∙ ap (λ (k : ℕ). drop k bytes) (omega arith) in
-    ap (λ (l : List (List ℕ)). frame_at bytes i ∷ l) (ap (first_chunks 7 n) rest ∙ chunks_from bytes (suc i) n)
-
 pub chunks_are : (bytes : List ℕ) → first_chunks 7 (length bytes / 7) bytes ≡ frames_of bytes
 unfolding frames_of
-chunks_are bytes = chunks_from bytes 0 (length bytes / 7)
+chunks_are bytes = Chunks.chunks_are 7 bytes (length bytes / 7)
 
 -- a whole frame has seven bytes
 pub frame_length : (bytes : List ℕ) (k : ℕ) → k < length bytes / 7 → length (frame_at bytes k) ≡ 7

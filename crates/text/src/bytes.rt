@@ -1,6 +1,6 @@
 // Bytes put one after another.
 ghost use Rattle.std.specs.Prelude.{◌≡◌, ◌+◌, ◌≤◌, ltb, length};
-ghost use Rattle.text.specs.Placing.{place_answer, place_writes, Put};
+ghost use Rattle.text.specs.Placing.{place_answer, place_writes, end_of, Put};
 
 use refusal::Refusal;
 
@@ -21,7 +21,7 @@ pub(crate) fn is_too_short(size: usize, at: usize, length: usize) -> bool
     size < length || size - length < at
 }
 
-// A text to `at` and on.
+// A text to `at` and on. Refused: the buffer ends before the text.
 pub fn place(text: &[u8], out: &mut [u8], at: usize) -> Result<usize, Refusal>
     ensures answer { result ≡ place_answer text.now at (length out.old) }
     ensures written { out.new ≡ place_writes text.now at out.old }
@@ -30,4 +30,11 @@ pub fn place(text: &[u8], out: &mut [u8], at: usize) -> Result<usize, Refusal>
         return Err(Refusal::ShortOutput);
     }
     Ok(append(text, out, at))
+}
+
+// Where a text ends after the answer to a call for more of it; one that was refused leaves it at `at`.
+pub fn end_of(answer: Result<usize, Refusal>, at: usize) -> usize
+    ensures { result ≡ end_of answer at }
+{
+    answer.unwrap_or(at)
 }

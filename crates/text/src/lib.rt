@@ -13,7 +13,7 @@ mod decimal;
 mod fields;
 mod signs;
 
-pub use bytes::place;
+pub use bytes::{end_of, place};
 pub use fields::{byte, name, number};
 pub use signs::signed;
 
