@@ -1,11 +1,9 @@
--- What a reading call owes in each of its cases: other than eleven bytes, a voiced set, an unvoiced set, any other form; and the test of an
--- unvoiced set byte by byte.
+-- What a reading call owes in each of its cases: other than eleven bytes, a voiced set, an unvoiced set, any other form.
 -- Assumes nothing.
 use mathlib.Core.Path.{◌≡◌, refl, sym, ap, ◌∙◌}
-use mathlib.Core.Bool.{Bool, true, false, ◌&&◌, cond}
-use mathlib.Core.List.{List, [], ◌∷◌}
+use mathlib.Core.Bool.{Bool, true, false, cond}
+use mathlib.Core.List.{List, ◌∷◌}
 use Prim.Native.Nat.{ℕ}
-use lib.Dec.{eqb}
 use lib.ListN.{length, get_or}
 use borrow.Author.Tests.{eq-eqb, ne_eqb}
 use Rattle.bits.specs.Bits.{cut}
@@ -15,17 +13,7 @@ use Rattle.sets.specs.declared.ParameterSet.TheVariants.{Unvoiced, Voiced}
 use Rattle.set_bytes.specs.SetBytes.{bytes_of, read_indices, read_voicing, set_in, same, is_set, read_answer}
 use Rattle.std.specs.Prelude.{Ok, Err}
 use Rattle.refusal.specs.declared.Refusal.TheVariants.{OutOfRange}
-use Rattle.set_bytes.proofs.Comparison.{same_append}
 use Rattle.set_bytes.proofs.SetBytes.{bytes_length, bytes_fits, fits_only, answer_is}
-
--- five tests, joined from the left or from the right
-five_tests : (a b c d e : Bool) → a && b && c && d && e ≡ a && (b && (c && (d && (e && true))))
-five_tests false b c d e = refl
-five_tests true false c d e = refl
-five_tests true true false d e = refl
-five_tests true true true false e = refl
-five_tests true true true true false = refl
-five_tests true true true true true = refl
 
 module _ (bytes : List ℕ) where
   -- the two sets that bytes can be those of
@@ -56,16 +44,6 @@ module _ (bytes : List ℕ) where
     -- eleven bytes, one by one
     entries : cut (λ j. get_or bytes j 0) 0 11 ≡ bytes
     entries = ap (cut (λ j. get_or bytes j 0) 0) (sym eleven) ∙ cut_get_or 0 bytes
-
-    -- an unvoiced set has 0 in the five bytes that are none of its indices
-    pub unvoiced_is : eqb (get_or bytes 0 0) 0 && eqb (get_or bytes 1 0) 0 && eqb (get_or bytes 8 0) 0 && eqb (get_or bytes 9 0) 0 && eqb (get_or bytes 10 0) 0
-        ≡ same bytes (bytes_of unvoiced)
-    unvoiced_is =
-        let at : ℕ → ℕ = λ j. get_or bytes j 0 in
-        let rest = same_append (cut at 2 6) (cut at 8 3) (0 ∷ 0 ∷ 0 ∷ []) in
-        five_tests (eqb (at 0) 0) (eqb (at 1) 0) (eqb (at 8) 0) (eqb (at 9) 0) (eqb (at 10) 0)
-        ∙ ap (λ (t : Bool). eqb (at 0) 0 && (eqb (at 1) 0 && t)) (sym rest)
-        ∙ ap (λ (l : List ℕ). same l (bytes_of unvoiced)) entries
 
     -- 1 in front: a voiced set
     pub voiced_owes : get_or bytes 0 0 ≡ 1 → Ok voiced ≡ read_answer bytes

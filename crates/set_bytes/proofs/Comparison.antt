@@ -1,8 +1,7 @@
--- The comparison of two lists of bytes passes for the same list and for no other, and what both have in front does not count.
+-- The comparison of two lists of bytes passes for the same list and for no other.
 -- Assumes nothing.
-use mathlib.Core.Path.{◌≡◌, refl, ap, ap₂, ◌∙◌}
-use mathlib.Core.Bool.{Bool, ◌&&◌}
-use mathlib.Core.List.{List, [], ◌∷◌, ◌++◌}
+use mathlib.Core.Path.{◌≡◌, refl, ap₂}
+use mathlib.Core.List.{List, [], ◌∷◌}
 use Prim.Native.Nat.{ℕ}
 use lib.Dec.{T, eqb, eqb→eq}
 use borrow.Author.Tests.{eq-eqb}
@@ -21,8 +20,3 @@ same_only [] (y ∷ b) t = absurd t
 same_only (x ∷ a) [] t = absurd t
 same_only (x ∷ a) (y ∷ b) t =
     ap₂ (λ (z : ℕ) (l : List ℕ). z ∷ l) (eqb→eq x y (and_left (eqb x y) (same a b) t)) (same_only a b (and_right (eqb x y) (same a b) t))
-
--- after the same bytes the rest decides
-pub same_append : (front a b : List ℕ) → same (front ++ a) (front ++ b) ≡ same a b
-same_append [] a b = refl
-same_append (x ∷ front) a b = ap (λ (t : Bool). t && same (front ++ a) (front ++ b)) (eq-eqb x x refl) ∙ same_append front a b

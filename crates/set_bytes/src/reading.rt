@@ -3,6 +3,7 @@ ghost use Rattle.std.specs.Prelude.{◌≡◌};
 ghost use Rattle.sets.specs.declared.ParameterSet.TheVariants.{Unvoiced};
 ghost use Rattle.set_bytes.specs.SetBytes.{same, bytes_of, read_indices, read_voicing, read_answer};
 
+use crate::writing::write;
 use refusal::Refusal;
 use sets::{Indices, ParameterSet, Voicing};
 
@@ -32,11 +33,11 @@ fn read_voicing(bytes: &[u8; 11]) -> Voicing
     }
 }
 
-// Whether eleven bytes are those of an unvoiced set: 0 in the first and in all that it lacks.
+// Whether eleven bytes are those of the unvoiced set of their indices: 0 in the first and in all that it lacks.
 fn is_unvoiced(bytes: &[u8; 11]) -> bool
     ensures { result ≡ same bytes.now (bytes_of (Unvoiced (read_indices bytes.now))) }
 {
-    (bytes[0] == 0) & (bytes[1] == 0) & (bytes[8] == 0) & (bytes[9] == 0) & (bytes[10] == 0)
+    *bytes == write(ParameterSet::Unvoiced(read_indices(bytes)))
 }
 
 // The set that bytes are those of. Refused: 5, bytes that are not those of a set.
