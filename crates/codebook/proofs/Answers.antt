@@ -13,7 +13,7 @@ use borrow.Author.Tests.{lt-ltb, eq-eqb}
 use Rattle.refusal.specs.Refusals.{first_refusal}
 use Rattle.refusal.specs.declared.Refusal.TheVariants.{EntryOutOfRange}
 use Rattle.codebook.specs.Rows.{lsf_size, stage_rows, stage_start, lsf_row, lsf_fits, lsf_row_refusal}
-use Rattle.codebook.specs.Rows.{magnitude_size, magnitude_row, magnitude_fits, magnitude_row_refusal}
+use Rattle.codebook.specs.Rows.{magnitude_size, magnitude_row}
 use Rattle.codebook.specs.Rows.{row_at, all_fit, row_unless}
 use Rattle.codebook.proofs.StageRows.{row_lt}
 

@@ -17,7 +17,8 @@ pub fn lsf_row(codebook: &[i64], stage: u8, index: u8) -> &[i64]
     stage_row(codebook, stage, index).unwrap_or(&[])
 }
 
-// The number of the refusal of that row, 0 is none.
+// The number of the refusal of that row, 0 is none. Refused: 5, an index past the rows of its stage, and any of another
+// stage; 6, a codebook of another length; 7, an entry of the row beyond its limit.
 pub fn lsf_row_refusal(codebook: &[i64], stage: u8, index: u8) -> u8
     ensures { result ≡ number_or_zero (lsf_row_refusal codebook.now stage index) }
 {
@@ -31,7 +32,7 @@ pub fn magnitude_row(codebook: &[i64], index: u16) -> &[i64]
     row_of_magnitudes(codebook, index).unwrap_or(&[])
 }
 
-// The number of the refusal of that row, 0 is none.
+// The number of the refusal of that row, 0 is none. Refused: 5, an index past 255; 6 and 7 likewise.
 pub fn magnitude_row_refusal(codebook: &[i64], index: u16) -> u8
     ensures { result ≡ number_or_zero (magnitude_row_refusal codebook.now index) }
 {
@@ -66,8 +67,5 @@ fn row_of_magnitudes(codebook: &[i64], index: u16) -> Result<&[i64], Refusal>
 fn number_or_zero(row: Result<&[i64], Refusal>) -> u8
     ensures { result ≡ number_or_zero (result_err row.entry) }
 {
-    match row {
-        Ok(_) => 0,
-        Err(refusal) => refusal.number(),
-    }
+    row.map_or_else(|refusal| refusal.number(), |_| 0)
 }

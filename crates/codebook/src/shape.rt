@@ -49,7 +49,7 @@ impl Shape {
         }
     }
 
-    // Whether every number of a row is within the limits.
+    // Whether every number of a row is within the limits. By two comparisons: the proof did not close with `contains`.
     fn fits(self, row: &[i64]) -> bool
         ensures { result ≡ all_fit (between self.least self.most) row.now }
     {

@@ -15,9 +15,5 @@ pub(crate) fn lsf_row_number(stage: u8, index: u8) -> Option<u16>
         4 => (256, 64),
         _ => return None,
     };
-    if index < rows {
-        Some(start + u16::from(index))
-    } else {
-        None
-    }
+    (index < rows).then_some(start + u16::from(index))
 }
