@@ -11,7 +11,7 @@ fn index_of(code: u8) -> u8
     requires { code < 128 }
     ensures { result ≡ index code }
 {
-    INDEX[code as usize]
+    INDEX[usize::from(code)]
 }
 
 // The class of a seven-bit code.
@@ -29,7 +29,7 @@ fn class_of(code: u8) -> PitchClass
     PitchClass::Voiced(index_of(code))
 }
 
-// The class of a code; past 127 there is none.
+// The class of a code. Refused: 5, a number past 127.
 pub fn classify(code: u8) -> Result<PitchClass, Refusal>
     ensures { result ≡ class_answer code }
 {

@@ -4,14 +4,14 @@ ghost use Rattle.pitch.specs.Pitch.{code_answer};
 
 use refusal::Refusal;
 
-// The code of an index; past 98 there is none.
+// The code of an index. Refused: 5, a number past 98.
 pub fn encode(index: u8) -> Result<u8, Refusal>
     ensures { result ≡ code_answer index }
 {
     if 98 < index {
         return Err(Refusal::OutOfRange);
     }
-    Ok(CODES[index as usize])
+    Ok(CODES[usize::from(index)])
 }
 
 // The codes with at least three ones, rising.

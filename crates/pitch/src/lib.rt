@@ -1,4 +1,7 @@
 // The pitch code of a frame: seven bits that tell unvoiced from voiced and carry the pitch index.
+//
+//   class  the class of a code
+//   code   the code of an index
 #![tactic(auto)]
 
 mod class;

@@ -18,4 +18,4 @@ table =
 
 pub returns : goal.returns
 unfolding table index
-returns c = equal_at 128 (λ k. get_or table k 0) index tt c.args.code c.requires
+returns c = simp c.from.ensures (equal_at 128 (λ k. get_or table k 0) index tt c.args.code c.requires)

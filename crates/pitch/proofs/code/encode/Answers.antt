@@ -29,4 +29,4 @@ pub returns : goal.returns
 unfolding table code_answer
 returns c =
     let h = suc-le-suc c.if-index-gt98.false in
-    simp (lt-ltb _ 99 h) (ap Ok (table_is _ h))
+    simp (lt-ltb _ 99 h, c.from.ensures) (ap Ok (table_is _ h))
