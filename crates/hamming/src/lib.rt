@@ -1,4 +1,7 @@
 // The four protected words of an unvoiced frame: parity, syndrome and repair.
+//
+//   parity  the parity bits of a word
+//   repair  the outcome of a received word by its syndrome
 #![tactic(auto)]
 
 mod parity;

@@ -10,7 +10,7 @@ fn all_parity(u: u8) -> u8
     requires { u < 16 }
     ensures { result ≡ value (parity (bits 4 u)) }
 {
-    PARITY[u as usize]
+    PARITY[usize::from(u)]
 }
 
 // The parity bits of the data in the low bits of a number, p0 most significant. Only word A has p3, and

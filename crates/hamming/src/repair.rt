@@ -22,9 +22,9 @@ fn entry_at(length: WordLength, syndrome: u8) -> u8
     ensures { result ≡ entry_of (fix_of (length_of length) (bits (check_bits (length_of length)) syndrome)) }
 {
     match length {
-        WordLength::Six => FIXES[0][syndrome as usize],
-        WordLength::Seven => FIXES[1][syndrome as usize],
-        WordLength::Eight => FIXES[2][syndrome as usize],
+        WordLength::Six => FIXES[0][usize::from(syndrome)],
+        WordLength::Seven => FIXES[1][usize::from(syndrome)],
+        WordLength::Eight => FIXES[2][usize::from(syndrome)],
     }
 }
 
@@ -33,7 +33,7 @@ fn flipped(length: WordLength, word: u8, k: u8) -> u8
     requires { (k < length_of length) × (word < 2 ^ length_of length) }
     ensures { result ≡ value (flip_at k (bits (length_of length) word)) }
 {
-    word ^ (1 << (length.bits() - 1 - k as usize))
+    word ^ (1 << (length.bits() - 1 - usize::from(k)))
 }
 
 // The outcome of the word in the low bits of a number: the table is asked at its syndrome.
@@ -55,9 +55,10 @@ pub fn decode(length: WordLength, word: u8) -> Option<Word>
     }
 }
 
-// The table's marks where no bit is flipped.
+// The table's mark of a syndrome that lets the word stand.
 const STAND: u8 = 8;
 
+// Its mark of a syndrome that erases the frame.
 const ERASE: u8 = 9;
 
 // The table of tables: a row for the words of six, seven and eight bits, in it for each syndrome the

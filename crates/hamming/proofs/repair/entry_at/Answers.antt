@@ -6,12 +6,12 @@ use Rattle.hamming.proofs.repair.entry_at.Goals as goal
 
 pub returns-in-Six : goal.returns-in-Six
 unfolding fix_row fix_of
-returns-in-Six c = rw c.in-Six.is (row_is 6 c.args.syndrome c.requires)
+returns-in-Six c = rw c.in-Six.is (rw c.from.ensures (row_is 6 c.args.syndrome c.requires))
 
 pub returns-in-Seven : goal.returns-in-Seven
 unfolding fix_row fix_of
-returns-in-Seven c = rw c.in-Seven.is (row_is 7 c.args.syndrome c.requires)
+returns-in-Seven c = rw c.in-Seven.is (rw c.from-in-Seven.ensures (row_is 7 c.args.syndrome c.requires))
 
 pub returns-in-Eight : goal.returns-in-Eight
 unfolding fix_row fix_of
-returns-in-Eight c = rw c.in-Eight.is (row_is 8 c.args.syndrome c.requires)
+returns-in-Eight c = rw c.in-Eight.is (rw c.from-in-Eight.ensures (row_is 8 c.args.syndrome c.requires))

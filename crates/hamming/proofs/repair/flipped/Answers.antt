@@ -20,4 +20,4 @@ returns c =
     let n = length_of a.length in
     let most = length_most a.length in
     let h : n - 1 - a.k < 8 = omega arith in
-    rw c.bits.ensures (ap (bit_xor a.word) (weight (n - 1 - a.k) h) ∙ flip_is n a.k a.word (length_least a.length) most c.requires.0 c.requires.1)
+    rw c.bits.ensures (rw c.from.ensures (ap (bit_xor a.word) (weight (n - 1 - a.k) h) ∙ flip_is n a.k a.word (length_least a.length) most c.requires.0 c.requires.1))
