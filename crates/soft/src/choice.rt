@@ -64,6 +64,6 @@ pub fn choose(length: WordLength, word: u8, confidences: [u8; 8]) -> Option<Word
     let data = key % 16;
     Some(Word {
         data: data as u8,
-        repaired: places_in(prices[data as usize]),
+        repaired: places_in(prices[usize::from(data)]),
     })
 }

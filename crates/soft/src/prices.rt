@@ -94,10 +94,11 @@ fn price_at(length: WordLength, came: Came, ds: &[u16; 16], ps: &[u16; 16], u: u
     ensures { result ≡ entry_price (length_of length) came.data came.parity ds.now ps.now u }
 {
     let parity = came.parity ^ parity_of(length, u);
-    ds[(came.data ^ u) as usize] + ps[parity as usize]
+    ds[usize::from(came.data ^ u)] + ps[usize::from(parity)]
 }
 
-// The prices of the code words of the word in the low bits of a number, by their data, and past them numbers that no price reaches.
+// The prices of the code words of the word in the low bits of a number, by their data, and past them numbers that no price
+// reaches: so every word has sixteen, and no length goes beside them.
 pub(crate) fn prices(length: WordLength, word: u8, q: [u8; 8]) -> [u16; 16]
     ensures prices { result ≡ prices_of (length_of length) (take (length_of length) q) (bits (length_of length) word) }
     ensures bound { PricesFit (length_of length) (take (length_of length) q) (bits (length_of length) word) }
@@ -106,9 +107,10 @@ pub(crate) fn prices(length: WordLength, word: u8, q: [u8; 8]) -> [u16; 16]
     let came = parts_of(length, word);
     let mut prices = [DEAREST; 16];
     for u in 0..code_words(length) {
-        prices[u as usize] = price_at(length, came, &of_data, &of_parity, u);
+        prices[usize::from(u)] = price_at(length, came, &of_data, &of_parity, u);
     }
     prices
 }
 
+// What stands where a word has no code word: no price reaches it, so it is never the least.
 const DEAREST: u16 = u16::MAX;

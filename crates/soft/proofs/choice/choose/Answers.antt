@@ -42,4 +42,5 @@ returns c =
     let e = c in
     let k = e.least_key-key.result in
     ap (λ (x : ℕ). read_as (k % 16) x) c.places_in.ensures
+    ∙ ap (λ (j : ℕ). read_as (k % 16) (get_or e.prices-prices.result j 0 % 16)) e.from.ensures
     ∙ ap (λ (t : Bool). cond t None (read_as (k % 16) (get_or e.prices-prices.result (k % 16) 0 % 16))) (sym e.if-erases.false) ∙ outcome (goal.at.returns e).After-erases

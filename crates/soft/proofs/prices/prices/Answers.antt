@@ -49,7 +49,7 @@ loop-u-preserved c =
     let p = price_of n (take n c.args.q) (bits n c.args.word) in
     let is = c.price_at.ensures ∙ entry_is (received (goal.at.loop-u-preserved c).After-parts_of-came) L.u (omega (arith, c.code_words-u-end.ensures)) ∙ ap p (sym (zero-add L.u)) in
     let room : L.u < 16 = omega (arith, c.code_words-u-end.ensures, code_words_le n (length_least c.args.length) (length_most c.args.length)) in
-    rw add-one (ap₂ (λ (d : List ℕ) (x : ℕ). set d L.u x) L.invariant is ∙ stored p (replicate 16 65535) 0 L.u room)
+    rw add-one (rw c.from.ensures (ap₂ (λ (d : List ℕ) (x : ℕ). set d L.u x) L.invariant is ∙ stored p (replicate 16 65535) 0 L.u room))
 
 pub returns : goal.returns
 returns c =
