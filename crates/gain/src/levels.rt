@@ -4,24 +4,21 @@ ghost use Rattle.gain.specs.Levels.{level, apart, mean, first_level, level_answe
 
 use refusal::Refusal;
 
+// The second code of a frame, and `q`, that of the frame before.
+#[derive(Clone, Copy)]
+struct SecondCodes {
+    g2: u8,
+    q: u8,
+}
+
 // The level of a second code in units of 1/186 dB, by the formula alone.
 fn level_of(g2: u8) -> u32
     ensures { result ≡ level g2 }
 {
-    1860 + 402 * (g2 as u32)
+    1860 + 402 * u32::from(g2)
 }
 
-// The first level of a frame by its codes and `q`, the second code before, by the formula alone.
-fn first_level_of(g2: u8, code: u8, q: u8) -> u32
-    ensures { result ≡ first_level g2 code q }
-{
-    if code == 0 {
-        return mean_level(g2, q);
-    }
-    smaller_level(g2, q) - 1116 + (code as u32 - 1) * first_step(g2, q)
-}
-
-// The level of a second code, refused past 31.
+// The level of a second code. Refused: 5, a code past 31.
 #[tactic(auto, using(crate::proofs::Answers::level_answered), unfolding(crate::specs::Levels::level_answer))]
 pub fn level(g2: u8) -> Result<u32, Refusal>
     ensures { result ≡ level_answer g2 }
@@ -32,35 +29,47 @@ pub fn level(g2: u8) -> Result<u32, Refusal>
     Ok(level_of(g2))
 }
 
-// The first level of a frame, refused where a code is out of range.
+// The first level of a frame. Refused: 5, a code out of range.
 #[tactic(auto, using(crate::proofs::Answers::first_level_answered), unfolding(crate::specs::Levels::first_level_answer))]
 pub fn first_level(g2: u8, code: u8, q: u8) -> Result<u32, Refusal>
     ensures { result ≡ first_level_answer g2 code q }
 {
     if (g2 <= 31) & (code <= 7) & (q <= 31) {
-        Ok(first_level_of(g2, code, q))
+        Ok(SecondCodes { g2, q }.first(code))
     } else {
         Err(Refusal::OutOfRange)
     }
 }
 
-// The mean of two second levels: what code 0 stands for.
-fn mean_level(g2: u8, q: u8) -> u32
-    ensures { result ≡ mean g2 q }
-{
-    (level_of(g2) + level_of(q)) / 2
-}
+impl SecondCodes {
+    // The first level of a code, by the formula alone.
+    fn first(self, code: u8) -> u32
+        ensures { result ≡ first_level self.g2 code self.q }
+    {
+        if code == 0 {
+            return self.mean();
+        }
+        self.smaller() - 1116 + (u32::from(code) - 1) * self.step()
+    }
 
-// The smaller of two second levels: the seven levels of codes 1 to 7 start below it.
-fn smaller_level(g2: u8, q: u8) -> u32
-    ensures { result ≡ min (level g2) (level q) }
-{
-    level_of(g2).min(level_of(q))
-}
+    // The mean of both levels: what code 0 stands for.
+    fn mean(self) -> u32
+        ensures { result ≡ mean self.g2 self.q }
+    {
+        (level_of(self.g2) + level_of(self.q)) / 2
+    }
 
-// The step between the seven levels of codes 1 to 7.
-fn first_step(g2: u8, q: u8) -> u32
-    ensures { result ≡ 67 * apart g2 q + 372 }
-{
-    67 * (g2.abs_diff(q) as u32) + 372
+    // The smaller of both levels: the seven levels of codes 1 to 7 start below it.
+    fn smaller(self) -> u32
+        ensures { result ≡ min (level self.g2) (level self.q) }
+    {
+        level_of(self.g2).min(level_of(self.q))
+    }
+
+    // The step between the seven levels of codes 1 to 7.
+    fn step(self) -> u32
+        ensures { result ≡ 67 * apart self.g2 self.q + 372 }
+    {
+        67 * u32::from(self.g2.abs_diff(self.q)) + 372
+    }
 }
