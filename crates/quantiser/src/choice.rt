@@ -25,7 +25,8 @@ struct SecondCodes {
     ghost in_range: { (g2 ≤ 31) × (q ≤ 31) },
 }
 
-// The codes of a frame's first and second level, after the second code `q`.
+// The codes of a frame's first and second level, after the second code `q`. Refused: 5, a level that no codes are chosen
+// for, or a `q` past 31.
 pub fn choose(first: i32, second: i32, q: u8) -> Result<GainCodes, Refusal>
     ensures { result ≡ choose_answer first second q }
 {
@@ -42,7 +43,7 @@ pub fn choose(first: i32, second: i32, q: u8) -> Result<GainCodes, Refusal>
 fn level_in_range(x: i32) -> bool
     ensures { result ≡ level_in_range x }
 {
-    (-18600 <= x) & (x <= 37200)
+    (-18600..=37200).contains(&x)
 }
 
 impl Level {
@@ -51,10 +52,10 @@ impl Level {
         ensures equal { pos result ≡ self.value +ℤ pos 18600 }
         ensures bound { result ≤ 55800 }
     {
-        (self.value + 18600) as u32
+        (self.value + RAISE as i32) as u32
     }
 
-    // The index of the nearest of the 32 levels.
+    // The index of the nearest of the 32 levels, which are 1860 and each 402 more, as `gain` has them.
     fn second_code(self) -> u8
         ensures equal { result ≡ chosen_g2 self.value }
         ensures bound { result ≤ 31 }
