@@ -16,7 +16,7 @@ fn joined(a: u8, b: u8, c: u8, d: u8) -> u64
     ensures number { result ≡ ((a * 64 + b) * 128 + c) * 128 + d }
     ensures bound { result < 2 ^ 28 }
 {
-    ((a as u64 * 64 + b as u64) * 128 + c as u64) * 128 + d as u64
+    ((u64::from(a) * 64 + u64::from(b)) * 128 + u64::from(c)) * 128 + u64::from(d)
 }
 
 // The four words, 28 bits: each word's data above what stands in its parity places.
@@ -38,8 +38,8 @@ fn other_bits(x: Indices, code: u8, sync: bool) -> u64
     ensures number { result ≡ value (others x (bits 7 code) sync) }
     ensures bound { result < 2 ^ 26 }
 {
-    let spectrum = (x.l2 as u64 * 64 + x.l3 as u64) * 64 + x.l4 as u64;
-    (code as u64 * 0x4_0000 + spectrum) * 2 + u64::from(sync)
+    let spectrum = (u64::from(x.l2) * 64 + u64::from(x.l3)) * 64 + u64::from(x.l4);
+    (u64::from(code) * 0x4_0000 + spectrum) * 2 + u64::from(sync)
 }
 
 // The parity places of a voiced set: bandpass bits, Fourier index and flag.

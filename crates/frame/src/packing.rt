@@ -26,8 +26,8 @@ fn set_refusal(order: &[u8]) -> Refusal
 }
 
 // The frame of a set in an order, a list of the 54 logical numbers by place, into the front of `out`; `sync` is the sender's
-// state, and the answer is the next one. Refused: an output of fewer than seven bytes; a list that is no order; a set out of
-// range.
+// state, and the answer is the next one. Refused: 1, an output of fewer than seven bytes; 10, a list that is no order; 5, a
+// set that no sender takes.
 pub fn pack(set: ParameterSet, sync: bool, order: &[u8], out: &mut [u8]) -> Result<bool, Refusal>
     ensures answer { result ≡ pack_answer order.now set sync (length out.old) }
     ensures written { out.new ≡ pack_writes order.now set sync out.old }

@@ -1,6 +1,5 @@
 -- `frame::layout::other_bits` meets its contract: the parts are joined from the first on. Assumes nothing.
-use mathlib.Core.Path.{sym, ap, ◌∙◌}
-use Prim.Native.Nat.{ℕ, ◌+◌, ◌*◌}
+use mathlib.Core.Path.{sym}
 use native.Mathlib.Omega.{arith}
 use Rattle.bits.proofs.Tests.{T_true}
 use Rattle.sets.proofs.Ranges.{index_ranges}
@@ -11,8 +10,8 @@ pub returns-clause-number : goal.returns-clause-number
 returns-clause-number c =
     let a = c.args in
     let r = index_ranges a.x (T_true _ c.requires.0) in
-    ap (λ (n : ℕ). (a.code * 262144 + ((a.x.l2 * 64 + a.x.l3) * 64 + a.x.l4)) * 2 + n) (c.from.ensures ∙ bit_is_number a.sync)
-    ∙ sym (others_value a.x r.l2 r.l3 r.l4 a.code a.sync c.requires.1)
+    simp (c.from.ensures, c.from-2.ensures, c.from-3.ensures, c.from-4.ensures, c.from-5.ensures, bit_is_number a.sync)
+    (sym (others_value a.x r.l2 r.l3 r.l4 a.code a.sync c.requires.1))
 
 pub returns-clause-bound : goal.returns-clause-bound
 returns-clause-bound c = omega (arith, index_ranges c.args.x (T_true _ c.requires.0), bit_at_most_one c.args.sync)
