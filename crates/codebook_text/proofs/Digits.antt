@@ -90,14 +90,3 @@ value_fits v i h k =
 pub number_digits : (line : List ℕ) → is_number line ≡ true → is_digits (unsigned line) ≡ true
 unfolding is_number
 number_digits line e = (both (is_digits (unsigned line)) (not (is_negative line && eqb (digits_value (unsigned line)) 0)) e).0
-
--- the test of a line with such digits is that of its sign
-pub number_is : (line : List ℕ) (minus : Bool) (m : ℕ) → is_digits (unsigned line) ≡ true → minus ≡ is_negative line
-    → m ≡ digits_value (unsigned line) → not (minus && eqb m 0) ≡ is_number line
-unfolding is_number
-number_is line minus m e f g = rw (e, f, g) refl
-
--- a line without such digits is bad
-pub number_none : (line : List ℕ) → is_digits (unsigned line) ≡ false → is_number line ≡ false
-unfolding is_number
-number_none line e = rw e refl

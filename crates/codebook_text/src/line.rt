@@ -3,17 +3,12 @@ ghost use Rattle.std.specs.Prelude.{◌≡◌, true, ◌<◌};
 ghost use Rattle.codebook_text.specs.Text.{is_negative, unsigned, all_digits, is_digits, digits_value, is_number, number_of};
 
 // Whether a line, without its end, is good. Its value is asked for only after a minus.
+#[tactic(auto, unfolding(crate::specs::Text::is_number))]
 pub(crate) fn is_number(line: &[u8]) -> bool
     ensures { result ≡ is_number line.now }
 {
     let digits = unsigned_part(line);
-    if is_digits(digits) {
-        if is_negative(line) {
-            return digits_value(digits) != 0;
-        }
-        return true;
-    }
-    false
+    is_digits(digits) && (!is_negative(line) || digits_value(digits) != 0)
 }
 
 // The number of a good line.
@@ -40,10 +35,11 @@ fn unsigned_part(line: &[u8]) -> &[u8]
 }
 
 // One to ten digits and nothing else.
+#[tactic(auto, using(std::proofs::Common::tests), unfolding(crate::specs::Text::is_digits))]
 fn is_digits(digits: &[u8]) -> bool
     ensures { result ≡ is_digits digits.now }
 {
-    (1 <= digits.len()) & (digits.len() <= 10) & all_digits(digits)
+    matches!(digits.len(), 1..=10) && all_digits(digits)
 }
 
 // Nothing but digits.
