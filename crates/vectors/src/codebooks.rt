@@ -1,7 +1,7 @@
 // The codebook that a vector gives by a rule, and lists of numbers.
 ghost use Rattle.std.specs.Prelude.{◌≤◌};
 
-use crate::vector::number;
+use crate::vector::Vector;
 
 // What each number of an output or a buffer holds before a call.
 pub(crate) const HELD: i64 = -7;
@@ -28,26 +28,30 @@ fn ruled(start: usize, step: usize, jump: usize) -> [i64; 3201] {
 }
 
 // The replacement in the ten bytes from `at`: another number at a place; past the last one nothing changes.
-fn replace_by(codebook: &mut [i64; 3201], r: &[u8; 256], at: usize)
+fn replace_by(codebook: &mut [i64; 3201], vector: &Vector, at: usize)
     requires { at ≤ 246 }
 {
-    if let Some(entry) = codebook.get_mut(number(r, at, 2)) {
-        *entry = signed(number(r, at + 2, 8));
+    if let Some(entry) = codebook.get_mut(vector.number(at, 2)) {
+        *entry = signed(vector.number(at + 2, 8));
     }
 }
 
 // The numbers that bytes 18 to 71 give: the rule, and three replacements.
-pub(crate) fn codebook_of(r: &[u8; 256]) -> [i64; 3201] {
-    let mut codebook = ruled(number(r, 18, 8), number(r, 26, 8), number(r, 34, 8));
-    replace_by(&mut codebook, r, 42);
-    replace_by(&mut codebook, r, 52);
-    replace_by(&mut codebook, r, 62);
+pub(crate) fn codebook_of(vector: &Vector) -> [i64; 3201] {
+    let mut codebook = ruled(
+        vector.number(18, 8),
+        vector.number(26, 8),
+        vector.number(34, 8),
+    );
+    replace_by(&mut codebook, vector, 42);
+    replace_by(&mut codebook, vector, 52);
+    replace_by(&mut codebook, vector, 62);
     codebook
 }
 
 // Whether these are the numbers from byte 74, eight bytes each; a vector has twelve at most.
-pub(crate) fn numbers_agree(r: &[u8; 256], numbers: &[i64]) -> bool {
-    let (given, _) = r[74..].as_chunks::<8>();
+pub(crate) fn numbers_agree(vector: &Vector, numbers: &[i64]) -> bool {
+    let (given, _) = vector.bytes[74..].as_chunks::<8>();
     numbers.len() <= 12
         && given
             .iter()

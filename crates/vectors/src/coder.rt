@@ -1,5 +1,5 @@
 // Answers about the pitch code, the words and the levels. Each is made the number of the bytes that a vector has for it.
-use crate::vector::{joined, refused};
+use crate::vector::{Vector, joined, refused};
 use hamming::{Word, WordLength};
 use pitch::PitchClass;
 use refusal::Refusal;

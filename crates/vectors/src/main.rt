@@ -50,6 +50,7 @@ mod vector;
 
 use std::io;
 use std::io::Write;
+use vector::Vector;
 
 // Prints how many vectors were read, how many of them differ, and how many bytes came after them.
 fn tell<W: Write>(to: &mut W, vectors: u64, differences: u64, left: u64) -> io::Result<()> {
@@ -64,14 +65,14 @@ const MOST: u64 = 4_000_000;
 
 // Reads the vectors and runs each.
 fn main(rt: HostRuntime) -> io::Result<()> {
-    let mut r = [0u8; 256];
+    let mut bytes = [0u8; 256];
     let mut differences: u64 = 0;
     for i in 0..MOST {
-        let got = console::read_full(&mut rt.stdin(), &mut r)?;
+        let got = console::read_full(&mut rt.stdin(), &mut bytes)?;
         if got < 256 {
             return tell(&mut rt.stdout(), i, differences, got as u64);
         }
-        differences += u64::from(!calls::agrees(&r));
+        differences += u64::from(!calls::agrees(&Vector { bytes }));
     }
     tell(&mut rt.stdout(), MOST, differences, 0)
 }

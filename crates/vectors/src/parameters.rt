@@ -1,11 +1,11 @@
 // Vectors of parameter sets: their ranges, and their bytes.
 ghost use Rattle.std.specs.Prelude.{◌≤◌};
 
-use crate::vector::{byte, bytes_agree, number, part, set_agrees};
+use crate::vector::Vector;
 use sets::ParameterSet;
 
 // Kind 12: the ranges and the indices of a set.
-pub(crate) fn ranges_agree(r: &[u8; 256], set: ParameterSet) -> bool {
+pub(crate) fn ranges_agree(vector: &Vector, set: ParameterSet) -> bool {
     let x = sets::indices_of(set);
     let bytes = [
         u8::from(sets::is_in_range(set)),
@@ -17,11 +17,11 @@ pub(crate) fn ranges_agree(r: &[u8; 256], set: ParameterSet) -> bool {
         x.g2,
         x.g1,
     ];
-    bytes_agree(r, 12, &bytes)
+    vector.bytes_agree(12, &bytes)
 }
 
 // Whether the fields of a set are those from `start`: 1 if voiced, the six indices, pitch, B, F, flag, with 0 for what it lacks.
-fn fields_agree(r: &[u8; 256], start: usize, set: ParameterSet) -> bool
+fn fields_agree(vector: &Vector, start: usize, set: ParameterSet) -> bool
     requires { start ≤ 245 }
 {
     let fields = match set {
@@ -40,24 +40,24 @@ fn fields_agree(r: &[u8; 256], start: usize, set: ParameterSet) -> bool
             v.aperiodic,
         ],
     };
-    bytes_agree(r, start, &fields)
+    vector.bytes_agree(start, &fields)
 }
 
 // Kind 23: the set in bytes.
-pub(crate) fn reading_agrees(r: &[u8; 256]) -> bool {
-    let size = number(r, 1, 1);
-    let refusal = byte(r, 14);
+pub(crate) fn reading_agrees(vector: &Vector) -> bool {
+    let size = vector.number(1, 1);
+    let refusal = vector.byte(14);
     if 12 < size {
         return false;
     }
-    match set_bytes::read(part(r, 2, size)) {
-        Ok(set) => (refusal == 0) & fields_agree(r, 15, set),
-        Err(f) => (refusal == f.number()) & bytes_agree(r, 15, &[0; 11]),
+    match set_bytes::read(vector.part(2, size)) {
+        Ok(set) => (refusal == 0) & fields_agree(vector, 15, set),
+        Err(f) => (refusal == f.number()) & vector.bytes_agree(15, &[0; 11]),
     }
 }
 
 // Kind 24: the bytes of a set. The set is the one in the expected bytes, if its fields are those in bytes 1 to 11.
-pub(crate) fn writing_agrees(r: &[u8; 256]) -> bool {
-    set_bytes::read(part(r, 12, 11)).is_ok_and(|set| fields_agree(r, 1, set)
-        & set_agrees(r, 12, set))
+pub(crate) fn writing_agrees(vector: &Vector) -> bool {
+    set_bytes::read(vector.part(12, 11)).is_ok_and(|set| fields_agree(vector, 1, set)
+        & vector.set_agrees(12, set))
 }

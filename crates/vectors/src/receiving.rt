@@ -2,7 +2,7 @@
 use crate::in_place::{in_place, soft_in_place};
 use crate::orders::order_of;
 use crate::state::{record_agrees, record_of};
-use crate::vector::{byte, joined, number, part, set_agrees};
+use crate::vector::{Vector, joined};
 use receiver::{FrameResult, Kind, Received};
 use records::Record;
 use refusal::Refusal;
@@ -18,28 +18,28 @@ fn number_of(kind: Kind) -> u8 {
 }
 
 // Whether both levels are those in bytes 39 to 42.
-fn levels_agree(r: &[u8; 256], first: u32, second: u32) -> bool {
-    (number(r, 39, 2) == first as usize) & (number(r, 41, 2) == second as usize)
+fn levels_agree(vector: &Vector, first: u32, second: u32) -> bool {
+    (vector.number(39, 2) == first as usize) & (vector.number(41, 2) == second as usize)
 }
 
 // Whether mute, the sync bit and the repaired count are those in bytes 43 to 45.
-fn marks_agree(r: &[u8; 256], mute: bool, sync: bool, repaired: u8) -> bool {
-    number(r, 43, 3) == joined(u8::from(mute), u8::from(sync), repaired)
+fn marks_agree(vector: &Vector, mute: bool, sync: bool, repaired: u8) -> bool {
+    vector.number(43, 3) == joined(u8::from(mute), u8::from(sync), repaired)
 }
 
 // Whether the result is the one in bytes 27 to 45.
-fn result_agrees(r: &[u8; 256], res: FrameResult) -> bool {
-    (byte(r, 27) == number_of(res.kind))
-        & set_agrees(r, 28, res.set)
-        & levels_agree(r, res.first, res.second)
-        & marks_agree(r, res.mute, res.sync, res.repaired)
+fn result_agrees(vector: &Vector, res: FrameResult) -> bool {
+    (vector.byte(27) == number_of(res.kind))
+        & vector.set_agrees(28, res.set)
+        & levels_agree(vector, res.first, res.second)
+        & marks_agree(vector, res.mute, res.sync, res.repaired)
 }
 
 // Whether the answer is the one in bytes 26 to 45; of a refusal there is only its number.
-fn answer_agrees(r: &[u8; 256], answer: Result<FrameResult, Refusal>) -> bool {
-    let refusal = byte(r, 26);
+fn answer_agrees(vector: &Vector, answer: Result<FrameResult, Refusal>) -> bool {
+    let refusal = vector.byte(26);
     match answer {
-        Ok(res) => (refusal == 0) & result_agrees(r, res),
+        Ok(res) => (refusal == 0) & result_agrees(vector, res),
         Err(f) => refusal == f.number(),
     }
 }
@@ -56,18 +56,18 @@ fn received(kind: u8, rec: Record, frame: &[u8], order: &[u8], confidences: &[u8
 
 // Kinds 9, 22, 32 and 33: receiving; the answer, and the record after it. Kinds 9 and 22 have no
 // confidences, the others at most 56.
-pub(crate) fn receive_agrees(r: &[u8; 256], kind: u8, last: ParameterSet) -> bool {
-    let size = number(r, 16, 1);
-    let count = number(r, 61, 1);
+pub(crate) fn receive_agrees(vector: &Vector, kind: u8, last: ParameterSet) -> bool {
+    let size = vector.number(16, 1);
+    let count = vector.number(61, 1);
     let received = received(
         kind,
-        record_of(r, last),
-        part(r, 17, size),
-        order_of(r),
-        part(r, 62, count),
+        record_of(vector, last),
+        vector.part(17, size),
+        order_of(vector),
+        vector.part(62, count),
     );
     (size <= 9)
         & (count <= 56)
-        & answer_agrees(r, received.answer)
-        & record_agrees(r, 46, received.next)
+        & answer_agrees(vector, received.answer)
+        & record_agrees(vector, 46, received.next)
 }

@@ -4,26 +4,26 @@ ghost use Rattle.std.specs.Prelude.{◌≤◌};
 use crate::packing::HELD;
 use crate::session_texts::frame_byte;
 use crate::text_rule::write_text;
-use crate::vector::{byte, bytes_agree, joined, number, refused};
+use crate::vector::{Vector, joined, refused};
 use session_reader::{LineRefusal, Step};
 
 // Whether the refusal, whether a frame is handed on, and the line refused are those in bytes 18 to 21.
-fn marks_agree(r: &[u8; 256], refusal: u8, handed_on: bool, line: u16) -> bool {
-    (number(r, 18, 2) == joined(0, refusal, u8::from(handed_on)))
-        & (number(r, 20, 2) == usize::from(line))
+fn marks_agree(vector: &Vector, refusal: u8, handed_on: bool, line: u16) -> bool {
+    (vector.number(18, 2) == joined(0, refusal, u8::from(handed_on)))
+        & (vector.number(20, 2) == usize::from(line))
 }
 
 // Whether the frame is the one in bytes 22 to 28; zeros stand there for none.
-fn frame_agrees(r: &[u8; 256], frame: Option<[u8; 7]>) -> bool {
-    bytes_agree(r, 22, &frame.unwrap_or([0; 7]))
+fn frame_agrees(vector: &Vector, frame: Option<[u8; 7]>) -> bool {
+    vector.bytes_agree(22, &frame.unwrap_or([0; 7]))
 }
 
 // Whether the answer of a step is the one in bytes 18 to 28.
-fn answer_agrees(r: &[u8; 256], answer: Result<Option<[u8; 7]>, LineRefusal>) -> bool {
+fn answer_agrees(vector: &Vector, answer: Result<Option<[u8; 7]>, LineRefusal>) -> bool {
     match answer {
-        Ok(frame) => marks_agree(r, 0, frame.is_some(), 0) & frame_agrees(r, frame),
+        Ok(frame) => marks_agree(vector, 0, frame.is_some(), 0) & frame_agrees(vector, frame),
         Err(bad) => {
-            marks_agree(r, bad.refusal.number(), false, bad.line) & frame_agrees(r, None)
+            marks_agree(vector, bad.refusal.number(), false, bad.line) & frame_agrees(vector, None)
         }
     }
 }
@@ -38,22 +38,22 @@ fn step_at(kind: u8, text: &[u8], at: usize) -> Step {
 }
 
 // Kinds 25 and 26: a step at the offset in bytes 10 to 17; the answer, the frame, and the offset after it.
-pub(crate) fn step_agrees(r: &[u8; 256], kind: u8) -> bool {
+pub(crate) fn step_agrees(vector: &Vector, kind: u8) -> bool {
     let mut buffer = console::large_buffer();
-    let text = write_text(r, &mut buffer);
-    let step = step_at(kind, text, number(r, 10, 8));
-    answer_agrees(r, step.answer) & (number(r, 29, 8) == step.at)
+    let text = write_text(vector, &mut buffer);
+    let step = step_at(kind, text, vector.number(10, 8));
+    answer_agrees(vector, step.answer) & (vector.number(29, 8) == step.at)
 }
 
 // So many bytes of frames to the front of a buffer, one of them replaced; what is put past the last one is not lent.
-fn write_frames<'a>(r: &[u8; 256], buffer: &'a mut [u8; 65536], size: usize) -> &'a [u8]
+fn write_frames<'a>(vector: &Vector, buffer: &'a mut [u8; 65536], size: usize) -> &'a [u8]
     requires { size ≤ 65536 }
 {
-    let first = byte(r, 9);
+    let first = vector.byte(9);
     for (j, b) in buffer[..size].iter_mut().enumerate() {
         *b = frame_byte(j, first);
     }
-    buffer[number(r, 12, 2)] = byte(r, 14);
+    buffer[vector.number(12, 2)] = vector.byte(14);
     &buffer[..size]
 }
 
@@ -64,17 +64,17 @@ fn holds(out: &[u8; 34100], text: &[u8]) -> bool {
 }
 
 // Whether the output has the text of the vector, which must fit in the bytes that were lent of it.
-fn output_agrees(r: &[u8; 256], out: &[u8; 34100], room: usize) -> bool {
+fn output_agrees(vector: &Vector, out: &[u8; 34100], room: usize) -> bool {
     let mut buffer = console::large_buffer();
-    let text = write_text(r, &mut buffer);
+    let text = write_text(vector, &mut buffer);
     (text.len() <= room) & holds(out, text)
 }
 
 // Kind 27: writing a session file, of at most 14,014 bytes of frames to an output of at most 34,100; the refusal, and the end
 // of the text.
-pub(crate) fn write_agrees(r: &[u8; 256]) -> bool {
-    let size = number(r, 10, 2);
-    let room = number(r, 15, 2);
+pub(crate) fn write_agrees(vector: &Vector) -> bool {
+    let size = vector.number(10, 2);
+    let room = vector.number(15, 2);
     if 14014 < size {
         return false;
     }
@@ -82,33 +82,33 @@ pub(crate) fn write_agrees(r: &[u8; 256]) -> bool {
         return false;
     }
     let mut buffer = console::large_buffer();
-    let frames = write_frames(r, &mut buffer, size);
+    let frames = write_frames(vector, &mut buffer, size);
     let mut out = [HELD; 34100];
     let end = session::write(frames, &mut out[..room]);
-    (byte(r, 18) == refused(end))
-        & (number(r, 19, 2) == end.unwrap_or(0))
-        & output_agrees(r, &out, room)
+    (vector.byte(18) == refused(end))
+        & (vector.number(19, 2) == end.unwrap_or(0))
+        & output_agrees(vector, &out, room)
 }
 
 // Kind 28: the three lines before the frames; the refusal, the bad one, how many frames there are, and where the first one's
 // line starts.
-pub(crate) fn header_agrees(r: &[u8; 256]) -> bool {
+pub(crate) fn header_agrees(vector: &Vector) -> bool {
     let mut buffer = console::large_buffer();
-    let text = write_text(r, &mut buffer);
+    let text = write_text(vector, &mut buffer);
     let (refusal, line, frames, first) = match session_lines::read_header(text) {
         Ok(header) => (0, 0, header.frames, header.first),
         Err(bad) => (bad.refusal.number(), bad.line, 0, 0),
     };
-    (byte(r, 18) == refusal)
-        & (number(r, 20, 2) == usize::from(line))
-        & (number(r, 22, 2) == frames)
-        & (number(r, 24, 2) == first)
+    (vector.byte(18) == refusal)
+        & (vector.number(20, 2) == usize::from(line))
+        & (vector.number(22, 2) == frames)
+        & (vector.number(24, 2) == first)
 }
 
 // Kind 29: the line at the offset in bytes 10 to 17, where a frame's is due; the refusal and the frame.
-pub(crate) fn line_agrees(r: &[u8; 256]) -> bool {
+pub(crate) fn line_agrees(vector: &Vector) -> bool {
     let mut buffer = console::large_buffer();
-    let text = write_text(r, &mut buffer);
-    let frame = session_lines::read_frame(text, number(r, 10, 8));
-    (byte(r, 18) == refused(frame)) & frame_agrees(r, frame.ok())
+    let text = write_text(vector, &mut buffer);
+    let frame = session_lines::read_frame(text, vector.number(10, 8));
+    (vector.byte(18) == refused(frame)) & frame_agrees(vector, frame.ok())
 }

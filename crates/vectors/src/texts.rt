@@ -3,11 +3,11 @@ ghost use Rattle.std.specs.Prelude.{◌≤◌, length};
 
 use crate::codebooks::HELD;
 use crate::text_rule::write_text;
-use crate::vector::{byte, refused};
+use crate::vector::{Vector, refused};
 
 // Whether a text, read as the LSF codebook in kind 20 and as the magnitudes in kind 21, gives the refusal in byte 72, and
 // the numbers expected.
-fn read_agrees(r: &[u8; 256], kind: u8, text: &[u8], expected: &[i64]) -> bool
+fn read_agrees(vector: &Vector, kind: u8, text: &[u8], expected: &[i64]) -> bool
     requires { length expected.now ≤ 3201 }
 {
     let room = expected.len();
@@ -17,14 +17,14 @@ fn read_agrees(r: &[u8; 256], kind: u8, text: &[u8], expected: &[i64]) -> bool
     } else {
         codebook_text::read_magnitudes(text, &mut buffer[..room])
     };
-    (byte(r, 72) == refused(answer)) & buffer.starts_with(expected)
+    (vector.byte(72) == refused(answer)) & buffer.starts_with(expected)
 }
 
 // Kinds 20 and 21: reading a text into a buffer of as many numbers as are expected.
-pub(crate) fn text_agrees(r: &[u8; 256], kind: u8, expected: &[i64]) -> bool
+pub(crate) fn text_agrees(vector: &Vector, kind: u8, expected: &[i64]) -> bool
     requires { length expected.now ≤ 3201 }
 {
     let mut buffer = console::large_buffer();
-    let text = write_text(r, &mut buffer);
-    read_agrees(r, kind, text, expected)
+    let text = write_text(vector, &mut buffer);
+    read_agrees(vector, kind, text, expected)
 }

@@ -4,21 +4,55 @@ ghost use Rattle.std.specs.Prelude.{◌+◌, ◌^◌, ◌<◌, ◌≤◌, length
 use refusal::Refusal;
 use sets::ParameterSet;
 
-// The byte of this number.
-pub(crate) fn byte(r: &[u8; 256], at: u8) -> u8 {
-    r[usize::from(at)]
+// A vector, as it is read.
+#[derive(Clone, Copy)]
+pub(crate) struct Vector {
+    pub(crate) bytes: [u8; 256],
 }
 
-// The so many bytes from `at` as a number, the high one first.
-pub(crate) fn number(r: &[u8; 256], at: usize, size: usize) -> usize
-    requires { (at + size ≤ 256) × (size ≤ 8) }
-    ensures { result < 256 ^ size }
-{
-    let mut n: usize = 0;
-    for x in &r[at..at + size] {
-        n = n * 256 + usize::from(*x);
+impl Vector {
+    // The number of its kind, as tests/reference writes it.
+    pub(crate) fn kind(&self) -> u8 {
+        self.bytes[0]
     }
-    n
+
+    // The byte of this number.
+    pub(crate) fn byte(&self, at: u8) -> u8 {
+        self.bytes[usize::from(at)]
+    }
+
+    // The so many bytes from `at` as a number, the high one first.
+    pub(crate) fn number(&self, at: usize, size: usize) -> usize
+        requires { (at + size ≤ 256) × (size ≤ 8) }
+        ensures { result < 256 ^ size }
+    {
+        let mut n: usize = 0;
+        for x in &self.bytes[at..at + size] {
+            n = n * 256 + usize::from(*x);
+        }
+        n
+    }
+
+    // The part that has this start and size; nothing where it does not fit.
+    pub(crate) fn part(&self, start: usize, size: usize) -> &[u8]
+        requires { start ≤ 256 }
+    {
+        self.bytes[start..].get(..size).unwrap_or(&[])
+    }
+
+    // Whether these are the bytes from `start`.
+    pub(crate) fn bytes_agree(&self, start: usize, bytes: &[u8]) -> bool
+        requires { start + length bytes.now ≤ 256 }
+    {
+        self.bytes[start..].starts_with(bytes)
+    }
+
+    // Whether the set is the one in the eleven bytes from `start`.
+    pub(crate) fn set_agrees(&self, start: usize, set: ParameterSet) -> bool
+        requires { start ≤ 245 }
+    {
+        self.bytes_agree(start, &set_bytes::write(set))
+    }
 }
 
 // Three bytes as a number.
@@ -32,25 +66,4 @@ pub(crate) fn refused<T: Copy>(answer: Result<T, Refusal>) -> u8 {
         Ok(_) => 0,
         Err(refusal) => refusal.number(),
     }
-}
-
-// The part of a vector that has this start and size; nothing where it does not fit.
-pub(crate) fn part(r: &[u8; 256], start: usize, size: usize) -> &[u8]
-    requires { start ≤ 256 }
-{
-    r[start..].get(..size).unwrap_or(&[])
-}
-
-// Whether these are the bytes from `start`.
-pub(crate) fn bytes_agree(r: &[u8; 256], start: usize, bytes: &[u8]) -> bool
-    requires { start + length bytes.now ≤ 256 }
-{
-    r[start..].starts_with(bytes)
-}
-
-// Whether the set is the one in the eleven bytes from `start`.
-pub(crate) fn set_agrees(r: &[u8; 256], start: usize, set: ParameterSet) -> bool
-    requires { start ≤ 245 }
-{
-    bytes_agree(r, start, &set_bytes::write(set))
 }

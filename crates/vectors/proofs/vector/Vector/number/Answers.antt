@@ -1,7 +1,7 @@
--- `vectors::vector::number` is safe, ends and meets its contract: so many bytes make a number below that power of 256. Assumes nothing.
+-- `vectors::vector::Vector::number` is safe, ends and meets its contract: so many bytes make a number below that power of 256. Assumes nothing.
 use Rattle.std.proofs.Common.{◌≡◌, ℕ, ◌+◌, ◌*◌, ◌^◌, ◌<◌, ◌≤◌, pow-suc, add-one, sym, rules, arith}
 use native.Mathlib.Nat.{pow-le-pow_right}
-use Rattle.vectors.proofs.vector.number.Goals as goal
+use Rattle.vectors.proofs.vector.Vector.number.Goals as goal
 
 -- one byte more makes a number below the next power
 more : (n k b : ℕ) → n < 256 ^ k → b < 256 → n * 256 + b < 256 ^ (k + 1)
