@@ -4,7 +4,7 @@ use mathlib.Core.Bool.{◌&&◌}
 use Prim.Native.Nat.{ℕ, ◌<◌}
 use lib.Dec.{T}
 use Rattle.bits.specs.Bits.{value, bits}
-use Rattle.bits.proofs.Tests.{T_true, true_T, and_left, and_right}
+use Rattle.bits.proofs.Tests.{T_true, and_right}
 use Rattle.pitch.specs.Pitch.{code_of}
 use Rattle.pitch.proofs.Answers.{code_answered}
 use Rattle.pitch.proofs.Codes.{code_lt}
@@ -34,7 +34,7 @@ unwrap-code-requires c = rw (c.encode.ensures, code_answered _ (pitch-fits (goal
 pub other_bits-requires-in-Voiced : goal.other_bits-requires-in-Voiced
 other_bits-requires-in-Voiced c =
     let s = (goal.at.other_bits-requires-in-Voiced c).In-Voiced in
-    (true_T _ (and_left (indices_fit c.in-Voiced.x) (voicing_fits c.in-Voiced.v) (fits s)), subst⁻¹ (λ (n : ℕ). n < 128) (sent (goal.at.other_bits-requires-in-Voiced c).After-unwrap-code) (code_lt _ (pitch-fits s)))
+    subst⁻¹ (λ (n : ℕ). n < 128) (sent (goal.at.other_bits-requires-in-Voiced c).After-unwrap-code) (code_lt _ (pitch-fits s))
 
 pub returns-in-Unvoiced : goal.returns-in-Unvoiced
 unfolding logical
