@@ -18,10 +18,10 @@ pub(crate) fn append(bytes: &[u8], out: &mut [u8], at: usize) -> usize
 pub(crate) fn is_too_short(size: usize, at: usize, length: usize) -> bool
     ensures { result ≡ ltb size (at + length) }
 {
-    size < length || size - length < at
+    size.checked_sub(length).is_none_or(|last| last < at)
 }
 
-// A text to `at` and on. Refused: the buffer ends before the text.
+// A text to `at` and on. Refused: 1, the buffer ends before the text.
 pub fn place(text: &[u8], out: &mut [u8], at: usize) -> Result<usize, Refusal>
     ensures answer { result ≡ place_answer text.now at (length out.old) }
     ensures written { out.new ≡ place_writes text.now at out.old }

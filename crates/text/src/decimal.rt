@@ -1,12 +1,11 @@
-// Numbers in decimal, where there is room for them; where they end. The buffer and the place stay two parameters, with the room for
-// the digits asked of each function: a struct of both would need one more clause in each, that it still lends the same buffer.
+// Numbers in decimal, where there is room for them; where they end. The room for the digits is asked of each function.
 ghost use Rattle.std.specs.Prelude.{◌≡◌, ◌+◌, ◌/◌, ◌%◌, ◌≤◌, ◌<◌, [], ◌∷◌, length};
 ghost use Rattle.bits.specs.Ascii.{digit_byte};
 ghost use Rattle.text.specs.Text.{decimal};
 ghost use Rattle.text.specs.Placing.{Put};
 
 // The last two digits of a number, with a zero in front of a single one. Both are made as one number, the first in its low byte: so
-// the compiler stores them at once.
+// the compiler stores them at once. 48 is `b'0'`.
 fn write_pair(n: u64, out: &mut [u8], at: usize) -> usize
     requires { at + 2 ≤ length out.old }
     ensures { Put out.old at (digit_byte (n % 100 / 10) ∷ digit_byte (n % 100 % 10) ∷ []) out.new result }
@@ -24,7 +23,7 @@ fn write_small(n: u64, out: &mut [u8], at: usize) -> usize
     ensures { Put out.old at (decimal n) out.new result }
 {
     if n < 10 {
-        out[at] = 48 + n as u8;
+        out[at] = b'0' + n as u8;
         return at + 1;
     }
     write_pair(n, out, at)

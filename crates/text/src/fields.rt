@@ -15,7 +15,7 @@ fn front(name: &Name, width: usize) -> &[u8]
     &name[..width.min(16)]
 }
 
-// The first `width` bytes of a name. Refused: the buffer ends before the text.
+// The first `width` bytes of a name. Refused: 1, the buffer ends before the text.
 pub fn name(name: Name, width: usize, out: &mut [u8], at: usize) -> Result<usize, Refusal>
     ensures answer { result ≡ place_answer (take width name) at (length out.old) }
     ensures written { out.new ≡ place_writes (take width name) at out.old }
@@ -23,7 +23,7 @@ pub fn name(name: Name, width: usize, out: &mut [u8], at: usize) -> Result<usize
     place(front(&name, width), out, at)
 }
 
-// A name, and a number after it. Refused: the buffer ends before the text.
+// A name, and a number after it. Refused: 1, the buffer ends before the text.
 pub fn number(name: Name, width: usize, n: u64, out: &mut [u8], at: usize) -> Result<usize, Refusal>
     ensures answer { result ≡ place_answer (take width name ++ decimal n) at (length out.old) }
     ensures written { out.new ≡ place_writes (take width name ++ decimal n) at out.old }
@@ -31,7 +31,7 @@ pub fn number(name: Name, width: usize, n: u64, out: &mut [u8], at: usize) -> Re
     put_number(front(&name, width), n, 20, out, at)
 }
 
-// The same of a number of one byte, which has at most three digits.
+// The same of a number of one byte, which has at most three digits. Refused: 1, the buffer ends before the text.
 pub fn byte(name: Name, width: usize, n: u8, out: &mut [u8], at: usize) -> Result<usize, Refusal>
     ensures answer { result ≡ place_answer (take width name ++ decimal n) at (length out.old) }
     ensures written { out.new ≡ place_writes (take width name ++ decimal n) at out.old }
