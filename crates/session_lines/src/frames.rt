@@ -4,7 +4,7 @@ ghost use Rattle.session_lines.specs.Lines.{line_at, is_hex, hex_value, all_hex,
 
 use refusal::Refusal;
 
-// Whether a byte is a lower-case hexadecimal digit.
+// Whether a byte is a lower-case hexadecimal digit; by `|` and `&`, without a branch for `all_hex`.
 fn is_hex(c: u8) -> bool
     ensures { result ≡ is_hex c }
 {
@@ -18,13 +18,13 @@ fn all_hex(digits: &[u8]) -> bool
     digits.iter().fold(true, |all, c| all & is_hex(*c))
 }
 
-// The value of such a digit.
+// The value of such a digit. By hand: std's digits are characters, of both cases.
 fn hex_value(c: u8) -> u8
     requires { is_hex c ≡ true }
     ensures equal { result ≡ hex_value c }
     ensures bound { result ≤ 15 }
 {
-    if c < b'a' { c - b'0' } else { c - 87 }
+    if c < b'a' { c - b'0' } else { c - b'a' + 10 }
 }
 
 // The byte of two such digits.
@@ -36,6 +36,7 @@ fn hex_byte(high: u8, low: u8) -> u8
 }
 
 // The seven bytes of 14 digits. It is called and not copied into its caller: so the compiler makes many at once.
+// By index: a proof knows nothing of what a zipped `iter_mut` left in the frame.
 #[inline(never)]
 fn seven_bytes(digits: &[u8; 14]) -> [u8; 7]
     requires { all_hex digits.now ≡ true }
@@ -64,7 +65,7 @@ fn digits_at(text: &[u8], at: usize) -> Option<&[u8; 14]>
     }
 }
 
-// The frame of the line from `at` on. A line that is none is bad; the last two bits of a frame are 0.
+// The frame of the line from `at` on. Refused: 8, a line that is none; 3, a frame with one of its last two bits set.
 pub fn read_frame(text: &[u8], at: usize) -> Result<[u8; 7], Refusal>
     ensures { result ≡ frame_read (line_at text.now at) }
 {

@@ -14,7 +14,8 @@ pub struct Header {
     pub first: usize,
 }
 
-// What refuses a line, and the number of that line, from 1; 0 where no line can start.
+// What refuses a line, and the number of that line, from 1; 0 where no line can start. It is a number and no `Option`: the claims
+// of session files have 0 there, and so has the line that is printed.
 #[derive(Clone, Copy, Debug, PartialEq, Eq)]
 pub struct LineRefusal {
     pub refusal: Refusal,
@@ -80,7 +81,7 @@ fn bad(line: u16) -> LineRefusal
     }
 }
 
-// What the three lines of a text tell, each judged in turn; the first bad one is refused.
+// What the three lines of a text tell, each judged in turn. Refused: 8, the first bad one.
 pub fn read_header(text: &[u8]) -> Result<Header, LineRefusal>
     ensures { result ≡ header_of text.now }
 {
