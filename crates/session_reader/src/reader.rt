@@ -28,7 +28,8 @@ impl<'a> Reader<'a> {
         Reader { text, at: 0 }
     }
 
-    // The next frame, the end of the file or a refusal. After these two it says the same again.
+    // The next frame, the end of the file or a refusal. After these two it says the same again. It is no `Iterator`'s: the
+    // reader after it is handed back, as document 01 names it.
     pub fn next(self) -> Handed<'a>
         ensures { result ≡ handed self.entry }
     {

@@ -57,10 +57,7 @@ fn frames_before(header: Header, place: usize) -> Option<usize>
     ensures equal { result ≡ placed header.first header.frames place }
     ensures bound { IfSome result (λ k. k ≤ header.frames) }
 {
-    if place < header.first {
-        return None;
-    }
-    let past = place - header.first;
+    let past = place.checked_sub(header.first)?;
     if past % 17 == 0 && past / 17 <= header.frames {
         Some(past / 17)
     } else {
@@ -94,8 +91,8 @@ fn step_after(text: &[u8], header: Header, at: usize) -> Step
     }
 }
 
-// What stands at an offset; reading begins at 0. Refused are a line that belongs to no session file, the first three judged
-// first, an offset where no line can start, and a frame's line with one of its last two bits set.
+// What stands at an offset; reading begins at 0. Refused: 8, a line that belongs to no session file, the first three judged
+// first, or an offset where no line can start; 3, a frame's line with one of its last two bits set.
 pub fn parse_at(text: &[u8], at: usize) -> Step
     ensures { result ≡ step_at text.now at }
 {

@@ -4,9 +4,9 @@ use Rattle.std.proofs.lemmas.Bool.Decides.{nat_tests}
 use Rattle.session_reader.specs.Steps.{is_place}
 use Rattle.session_reader.proofs.steps.frames_before.Goals as goal
 
-pub returns-then-place-header-clause-equal : goal.returns-then-place-header-clause-equal
+pub returns-in_err-past-clause-equal : goal.returns-in_err-past-clause-equal
 unfolding is_place
-returns-then-place-header-clause-equal c = grind (arith, nat_tests)
+returns-in_err-past-clause-equal c = grind (arith, nat_tests)
 
 pub returns-then-past-header-clause-equal : goal.returns-then-past-header-clause-equal
 unfolding is_place
