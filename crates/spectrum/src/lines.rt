@@ -22,7 +22,8 @@ pub(crate) fn write_text(spectrum: Result<Spectrum, Refusal>, out: &mut [u8; 512
     }
 }
 
-// Ten numbers, a line for each, from `at` on; where they end.
+// Ten numbers, a line for each, from `at` on; where they end. The place goes beside the buffer, as in `value_line`,
+// which it calls.
 fn write_lines(numbers: &[i64; 10], out: &mut [u8], at: usize) -> usize
     requires { at + 220 ≤ length out.old }
     ensures lines { Appended out.old at (lines numbers.now) out.new result }

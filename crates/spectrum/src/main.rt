@@ -17,17 +17,15 @@ use std::rt::Files;
 use std::{fs, io};
 
 // A file to the front of a buffer, and how many bytes came; none where there is no such file, or it cannot be
-// read. A file that fills the buffer is longer than any good codebook, and what follows changes nothing (specs/Printed).
+// read. A file that fills the buffer is longer than any good codebook, and what follows changes nothing: `EnoughRead`
+// of specs/Output says so.
 fn read_file<R: Files>(rt: &R, path: &str, text: &mut [u8; 65536]) -> usize
     ensures { IsPrefixLen result text.new }
 {
     let Ok(mut file) = fs::open(rt, path) else {
         return 0;
     };
-    match console::read_full(&mut file, text) {
-        Ok(got) => got,
-        Err(_) => 0,
-    }
+    console::read_full(&mut file, text).unwrap_or(0)
 }
 
 // Reads the frame and the texts of both codebooks, and prints what they give. An eighth byte of input tells a
