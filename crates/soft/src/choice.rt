@@ -8,7 +8,8 @@ ghost use Rattle.soft.specs.Prices.{key_number, least_in, as_cheap};
 use crate::prices::prices;
 use hamming::{Word, WordLength};
 
-// The key of a code word in one number: 16 times its cost, and its data.
+// The key of a code word: 16 times its cost, and its data. It is one number, so that the least is found by one comparison a
+// code word.
 fn key_of(price: u16, u: u16) -> u16
     requires { u < 16 }
     ensures { result ≡ price / 16 * 16 + u }
@@ -16,7 +17,8 @@ fn key_of(price: u16, u: u16) -> u16
     price / 16 * 16 + u
 }
 
-// The key of the cheapest code word. Of equal costs the smallest data have the least key.
+// The key of the cheapest code word. Of equal costs the smallest data have the least key. A loop, which begins with the first
+// and meets it again: with `map` and `min` of the iterator the proof was tried and did not close.
 fn least_key(prices: &[u16; 16]) -> u16
     ensures { result ≡ key_number prices.now (least_in prices.now) }
 {
