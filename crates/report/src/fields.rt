@@ -9,6 +9,7 @@ use receiver::{FrameResult, Kind};
 use sets::{Indices, ParameterSet};
 use text::Name;
 
+// The names, each filled up by dots; a dot that is written is first set to a letter or a digit.
 const PITCH: Name = *b" kind=. pitch=-.";
 
 const LSF: Name = *b" lsf=...........";

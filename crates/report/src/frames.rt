@@ -40,7 +40,7 @@ fn put_frame(k: u64, answer: Result<FrameResult, Refusal>, out: &mut [u8], at: u
     line.end
 }
 
-// The line of frame k, to `at` and on; it has at most 144 bytes. Refused: the buffer ends before the line.
+// The line of frame k, to `at` and on; it has at most 144 bytes. Refused: 1, the buffer ends before the line.
 pub fn frame_line(
     k: u64,
     answer: Result<FrameResult, Refusal>,
@@ -51,7 +51,7 @@ pub fn frame_line(
     ensures written { out.new ≡ place_writes (frame_line k answer) at out.old }
     ensures bound { length (frame_line k answer) ≤ 144 }
 {
-    if out.len() >= 144 && at <= out.len() - 144 {
+    if out.len().checked_sub(144).is_some_and(|last| at <= last) {
         return Ok(put_frame(k, answer, out, at));
     }
     let mut line = [0u8; 144];

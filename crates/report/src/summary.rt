@@ -13,7 +13,7 @@ const REPEATS: Name = *b" repeats=.......";
 
 const LEFT: Name = *b" left=..........";
 
-// The first line, to `at` and on. Refused: the buffer ends before the line.
+// The first line, to `at` and on. Refused: 1, the buffer ends before the line.
 pub fn first_line(out: &mut [u8], at: usize) -> Result<usize, Refusal>
     ensures answer { result ≡ place_answer first_line at (length out.old) }
     ensures written { out.new ≡ place_writes first_line at out.old }
@@ -21,7 +21,7 @@ pub fn first_line(out: &mut [u8], at: usize) -> Result<usize, Refusal>
     text::place(b"grain=186 order=house\n", out, at)
 }
 
-// The last line, to `at` and on; it has at most 144 bytes. Refused: the buffer ends before the line.
+// The last line, to `at` and on; it has at most 144 bytes. Refused: 1, the buffer ends before the line.
 pub fn last_line(
     frames: u64,
     repeats: u64,

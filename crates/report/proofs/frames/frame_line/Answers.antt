@@ -10,12 +10,12 @@ use Rattle.text.proofs.Parts.{line_end_le, line_owes}
 use Rattle.report.proofs.frames.frame_line.Goals as goal
 use Rattle.report.proofs.frames.frame_line.Goals.{After-put_frame-end}
 
-pub returns-then-at-out : goal.returns-then-at-out
-returns-then-at-out c =
+pub returns-then-is_some_and : goal.returns-then-is_some_and
+returns-then-is_some_and c =
     let a = c.args in
     let line = frame_line a.k a.answer in
     let e = c.put_frame.ensures in
-    let room : a.at + length line ≤ length a.out.now = omega (arith, e.bound, c.if-at-out.true, c.if-out-ge144.true) in
+    let room : a.at + length line ≤ length a.out.now = grind (arith) in
     let o = room_owes line a.at a.out.now _ _ room (e.put room) in
     record { answer = o.0; written = o.1; bound = e.bound }
 
