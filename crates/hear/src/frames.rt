@@ -13,7 +13,8 @@ use records::Record;
 use refusal::Refusal;
 
 // How far a call is received: the receiver's record, how many frames were repeats, how many bytes of the text are
-// sent, and where the others end in the buffer.
+// sent, and where the others end in the buffer. The buffer stays beside it: a struct that lends it would need a clause in each
+// step, that it still lends the same one.
 #[derive(Clone, Copy)]
 pub(crate) struct Progress {
     pub(crate) rec: Record,
@@ -42,15 +43,7 @@ fn repeat_of(answer: Result<FrameResult, Refusal>) -> u64
     ensures equal { result ≡ repeat_of answer }
     ensures bound { result ≤ 1 }
 {
-    match answer {
-        Ok(
-            FrameResult {
-                kind: Kind::Repeat,
-                ..
-            },
-        ) => 1,
-        _ => 0,
-    }
+    u64::from(answer.is_ok_and(|res| matches!(res.kind, Kind::Repeat)))
 }
 
 // Frame k: the receiver takes it, and its line is written.
