@@ -17,8 +17,8 @@ fn next_place(place: usize) -> usize
     if 54 <= next { next - 54 } else { next }
 }
 
-// The default order, by a place that is carried along (document 02, T-04). Nine bits are named in one loop and six of these name
-// all: so a compiler unrolls both, and every entry is a constant, which it is not with one loop of 54.
+// The default order, by a place that is carried along (document 02, T-04). Nine bits are named in one loop and six of these
+// name all: so a compiler unrolls both, and every entry is a constant, which it is not with one loop of 54.
 pub fn default_order() -> [u8; 54]
     ensures { result ≡ default_order }
 {
@@ -33,7 +33,8 @@ pub fn default_order() -> [u8; 54]
     entries
 }
 
-// Whether a list of 54 is the default order: all entries are compared, without an early end, so that a compiler compares many at once.
+// Whether a list of 54 is the default order: all entries are compared, without an early end, so that a compiler compares many
+// at once. By the place: the invariant names what is left of both lists from there on.
 fn is_default(list: &[u8; 54]) -> bool
     ensures { result ≡ same_numbers list.now default_order }
 {
@@ -59,7 +60,8 @@ fn each_once(list: &[u8; 54]) -> bool
     seen == ALL_SEEN
 }
 
-// The order in a list, unless it is none. The default order is known by one comparison, so that who lends it does not pay for the others.
+// The order in a list, unless it is none. The default order is known by one comparison, so that a call with it does not pay for
+// the test that any other list needs.
 pub(crate) fn tested(list: &[u8]) -> Result<Order, Refusal>
     ensures { MatchResult result (λ order. (numbers order ≡ list.now) × (is_order list.now ≡ true)) (λ f. (is_order list.now ≡ false) × (f ≡ Refusal.InvalidOrder)) }
 {

@@ -50,7 +50,7 @@ fn seven_bytes(bits: u64) -> [u8; 7]
     [a, b, c, d, e, f, g]
 }
 
-// The frame of the logical bits in the low 54 bits of a number, unless the list is no order.
+// The frame of the logical bits in the low 54 bits of a number. Refused: 10, a list that is no order.
 pub fn place_bits(bits: u64, order: &[u8]) -> Result<[u8; 7], Refusal>
     ensures { result ≡ placed_bits order.now (carried 54 bits) }
 {

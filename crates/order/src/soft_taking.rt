@@ -24,7 +24,8 @@ fn default_confidences(confidences: &[u8; 54]) -> [u8; 54]
     found
 }
 
-// In any order: place after place, the confidence there goes to the bit that the order names.
+// In any order: place after place, the confidence there goes to the bit that the order names. By the place: the invariant is
+// about the places before it.
 fn each_confidence(confidences: &[u8; 54], order: Listed) -> [u8; 54]
     ensures { result ≡ cut (confidence_of order.entry.list.now confidences.now) 0 54 }
 {
@@ -36,7 +37,8 @@ fn each_confidence(confidences: &[u8; 54], order: Listed) -> [u8; 54]
     found
 }
 
-// The logical bits of a frame and their confidences. Refused: what is without confidences; then, other than 54 of them.
+// The logical bits of a frame and their confidences. Refused: 2, what is not seven bytes; 10, a list that is no order; 3, a
+// frame with one of its last two bits set; 9, other than 54 confidences.
 pub fn soft_bits(frame: &[u8], order: &[u8], confidences: &[u8]) -> Result<SoftBits, Refusal>
     ensures { result ≡ soft_bits order.now frame.now confidences.now }
 {

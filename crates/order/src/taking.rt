@@ -20,7 +20,8 @@ fn placed_bits(frame: &[u8; 7]) -> u64
     (four * 65536 + two) * 256 + u64::from(g)
 }
 
-// The 54 logical bits in the default order, from their places. Those that stand as far from where they go move together, by a shift and a mask.
+// The 54 logical bits in the default order, from their places. Those that stand as far from where they go move together, by a
+// shift and a mask.
 fn gather(placed: u64) -> u64
     ensures { result ≡ value (cut (λ j. carried 56 placed (place_of default_order j)) 0 54) }
 {
@@ -63,8 +64,7 @@ fn take_each(placed: u64, order: Listed) -> u64
     bits
 }
 
-// The logical bits of a frame in the low 54 bits of a number, bit 0 the most significant, with the order. Refused: what is not
-// seven bytes; a list that is no order; a frame with one of its last two bits set.
+// The logical bits of a frame as `logical_bits` has them, with the order, refused likewise.
 pub(crate) fn taken<'a>(frame: &[u8], order: &'a [u8]) -> Result<(u64, Order<'a>), Refusal>
     ensures { MatchResult result (λ p. (bits_answer order.now frame.now ≡ Ok p.0) × (numbers p.1 ≡ order.now)) (λ f. bits_answer order.now frame.now ≡ Err f) }
 {
@@ -83,7 +83,8 @@ pub(crate) fn taken<'a>(frame: &[u8], order: &'a [u8]) -> Result<(u64, Order<'a>
     Ok((bits, order))
 }
 
-// The logical bits of a frame in the low 54 bits of a number, bit 0 the most significant.
+// The logical bits of a frame in the low 54 bits of a number, bit 0 the most significant. Refused: 2, what is not seven bytes;
+// 10, a list that is no order; 3, a frame with one of its last two bits set.
 pub fn logical_bits(frame: &[u8], order: &[u8]) -> Result<u64, Refusal>
     ensures { result ≡ bits_answer order.now frame.now }
 {
