@@ -1,4 +1,5 @@
-// Parts of 54 logical bits, carried in one number. Logical bit 0 is the most significant.
+// Parts of 54 logical bits, carried in one number. Logical bit 0 is the most significant. They stay a plain number, which the
+// calls of `order` give and those of this crate take.
 ghost use Rattle.std.specs.Prelude.{◌≡◌, ◌+◌, ◌≤◌, ◌<◌, ◌^◌};
 ghost use Rattle.bits.specs.Bits.{value, cut, carried};
 ghost use Rattle.reading.specs.Reading.{indices_of, voicing_of};

@@ -17,9 +17,7 @@ fn eight(confidences: &[u8; 54], first: usize) -> [u8; 8]
     requires { first ≤ 46 }
     ensures { result ≡ cut (λ j. get_or confidences.now j 0) first 8 }
 {
-    let mut found = [0; 8];
-    found.copy_from_slice(&confidences[first..first + 8]);
-    found
+    confidences[first..first + 8].try_into().unwrap()
 }
 
 // The outcome of the word that stands from a bit on: it is chosen by the confidences of its bits. Of eight the shorter words
@@ -36,8 +34,9 @@ fn chosen(length: WordLength, bits: u64, confidences: &[u8; 54], first: usize) -
     )
 }
 
-// An unvoiced frame: each word is chosen by the confidences of its bits. It is as without confidences but for the call at each
-// word; a closure in its place would need clauses of its own, for where it may be called and for the bound of what it gives.
+// An unvoiced frame: each word is chosen by the confidences of its bits. It is `unvoiced` but for the call at each word; one
+// function for both, with a closure for that call, would need clauses for where it may be called and for the bound of what it
+// gives.
 fn soft_unvoiced(bits: u64, confidences: &[u8; 54]) -> Option<Accepted>
     ensures { result ≡ soft_by_class (carried 54 bits) (λ j. get_or confidences.now j 0) class.Unvoiced }
 {
