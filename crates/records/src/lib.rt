@@ -15,7 +15,8 @@ pub use repeats::is_muted;
 use sets::ParameterSet;
 pub use state::{fresh, is_valid};
 
-// The kind of a frame as the record keeps it: a repeat or not.
+// The kind of a frame as the record keeps it: a repeat or not. A struct of one bool: a kind says one thing, and clients name
+// the field.
 #[derive(Clone, Copy)]
 pub struct FrameKind {
     pub repeat: bool,

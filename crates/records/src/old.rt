@@ -7,7 +7,7 @@ use crate::state::in_ranges;
 use crate::{OldRecord, Record, TakenOver};
 use refusal::Refusal;
 
-// Whether an old record is taken. Refused: the last set or the last G2 is out of its range.
+// Whether an old record is taken.
 fn answer_of(old: OldRecord) -> Result<(), Refusal>
     ensures { result ≡ old_answer old }
 {
@@ -18,8 +18,8 @@ fn answer_of(old: OldRecord) -> Result<(), Refusal>
     }
 }
 
-// The record with the number of its repeats, all else as it was, and beside it whether the old one is taken. With a record that
-// is refused here every receiving call gives the same refusal.
+// The record with the number of its repeats, all else as it was, and beside it whether the old one is taken. Refused: 4, a last
+// set or a last G2 out of its range; with such a record every receiving call gives the same refusal.
 pub fn take_over(old: OldRecord) -> TakenOver
     ensures { result ≡ taken_over old }
 {
