@@ -1,9 +1,8 @@
 -- std's chunks of seven bytes are the frames, and what the receiver makes of each. Assumes nothing.
-use mathlib.Core.Path.{◌≡◌, ap, ◌∙◌}
+use mathlib.Core.Path.{◌≡◌, ap}
 use mathlib.Core.List.{List, []}
-use Prim.Native.Nat.{ℕ, suc, ◌+◌, ◌-◌, ◌*◌, ◌<◌}
-use native.Mathlib.Omega.{arith}
-use lib.ListN.{get_or, take, drop}
+use Prim.Native.Nat.{ℕ, suc, ◌<◌}
+use lib.ListN.{get_or}
 use Rattle.std.specs.Simd.{first_chunks}
 use Rattle.bits.proofs.Chunks
 use Rattle.order.specs.Order.{default_order}
@@ -22,6 +21,5 @@ module _ (bytes : List ℕ) (frames : List (List ℕ)) (k : ℕ) (e : frames ≡
       → ((receive default_order rec (get_or frames k [])).answer ≡ answer_at default_order bytes k)
       × ((receive default_order rec (get_or frames k [])).next ≡ record_after default_order bytes (suc k))
   chunk_received rec r =
-      let n : 7 ≡ 7 * k + 7 - 7 * k = omega arith in
-      let frame = ap (receive default_order rec) (chunk_at ∙ ap (λ (m : ℕ). take m (drop (7 * k) bytes)) n) in
+      let frame = ap (receive default_order rec) chunk_at in
       (answer_is default_order bytes k rec _ frame r, next_is default_order bytes k rec _ frame r)

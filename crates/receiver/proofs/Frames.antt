@@ -1,21 +1,17 @@
 -- What the receiver answers frame k of many, and the record it leaves. Assumes nothing.
 use mathlib.Core.Path.{◌≡◌, ap, ◌∙◌}
 use mathlib.Core.List.{List}
-use Prim.Native.Nat.{ℕ, suc, ◌+◌, ◌-◌, ◌*◌}
-use native.Mathlib.Omega.{arith}
-use lib.ListN.{take, drop}
+use Prim.Native.Nat.{ℕ, suc}
 use Rattle.receiver.specs.declared.Received.{Received}
 use Rattle.records.specs.declared.Record.{Record}
 use Rattle.receiver.specs.Receiving.{receive}
 use Rattle.receiver.specs.Frames.{frame_at, record_after, answer_at}
 
 module _ (ord bytes : List ℕ) (k : ℕ) (r : Record) (x : Received)
-    (h : x ≡ receive ord r (take (7 * k + 7 - 7 * k) (drop (7 * k) bytes))) (e : r ≡ record_after ord bytes k) where
+    (h : x ≡ receive ord r (frame_at bytes k)) (e : r ≡ record_after ord bytes k) where
   -- the receiver took frame k
   received_is : x ≡ receive ord (record_after ord bytes k) (frame_at bytes k)
-  received_is =
-      let n : 7 * k + 7 - 7 * k ≡ 7 = omega arith in
-      h ∙ (λ i. receive ord (e i) (take (n i) (drop (7 * k) bytes)))
+  received_is = h ∙ ap (λ (s : Record). receive ord s (frame_at bytes k)) e
 
   pub answer_is : x.answer ≡ answer_at ord bytes k
   unfolding answer_at

@@ -22,7 +22,8 @@ pub(crate) fn refuse(rec: Record, refusal: Refusal) -> Received
     }
 }
 
-// A frame by what its bits are read as, where the record is valid; one that is not is refused.
+// A frame by what its bits are read as, where the record is valid; one that is not is refused. That what was read is in range
+// is asked here and is no field of `Accepted`: that type is public, and others make it.
 pub(crate) fn step_unless_refused(rec: Record, sync: bool, reading: Option<Accepted>) -> Received
     requires { reading_fits reading ≡ true }
     ensures { result ≡ step_unless (first_refusal (record_table rec)) rec sync reading }
@@ -34,8 +35,8 @@ pub(crate) fn step_unless_refused(rec: Record, sync: bool, reading: Option<Accep
     }
 }
 
-// A frame in an order, a list of the 54 logical numbers by place: the answer, and the record after it. Refused: not seven
-// bytes; a list that is no order; one of the last two bits set; a record that is not valid.
+// A frame in an order, a list of the 54 logical numbers by place: the answer, and the record after it. Refused: 2, what is not
+// seven bytes; 10, a list that is no order; 3, a frame with one of its last two bits set; 4, a record that is not valid.
 pub fn receive(rec: Record, frame: &[u8], order: &[u8]) -> Received
     ensures { result ≡ receive order.now rec frame.now }
 {
@@ -45,8 +46,8 @@ pub fn receive(rec: Record, frame: &[u8], order: &[u8]) -> Received
     }
 }
 
-// The same, with the record changed in the caller's memory. The call with confidences has the same lines: a function of them
-// would be handed the record beside what was received, and is no plainer.
+// The same, with the record changed in the caller's memory, refused likewise. `receive_soft_in_place` has the same lines: one
+// function for both would be handed the record beside what was received, and is no plainer.
 pub fn receive_in_place(
     rec: &mut Record,
     frame: &[u8],

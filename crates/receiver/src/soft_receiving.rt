@@ -9,8 +9,9 @@ use reading::read_soft;
 use records::Record;
 use refusal::Refusal;
 
-// A frame in an order and the confidences of its places: the answer, and the record after it. Refused: not seven bytes; a list
-// that is no order; one of the last two bits set; other than 54 confidences; a record that is not valid.
+// A frame in an order and the confidences of its places: the answer, and the record after it. Refused: 2, what is not seven
+// bytes; 10, a list that is no order; 3, a frame with one of its last two bits set; 9, other than 54 confidences; 4, a record
+// that is not valid.
 pub fn receive_soft(rec: Record, frame: &[u8], order: &[u8], confidences: &[u8]) -> Received
     ensures { result ≡ soft_receive order.now rec frame.now confidences.now }
 {
@@ -23,7 +24,7 @@ pub fn receive_soft(rec: Record, frame: &[u8], order: &[u8], confidences: &[u8])
     }
 }
 
-// The same, with the record changed in the caller's memory.
+// The same, with the record changed in the caller's memory, refused likewise.
 pub fn receive_soft_in_place(
     rec: &mut Record,
     frame: &[u8],

@@ -23,7 +23,8 @@ impl From<ParameterSet> for Kind {
 }
 
 impl ValidRecord {
-    // An accepted frame: its set is the result. The first level goes by the G2 accepted before, which the record holds.
+    // An accepted frame: its set is the result. The first level goes by the G2 accepted before, which the record holds. That
+    // the set is in range is asked here and of `step`, as of `step_unless_refused`, which says why.
     fn accept(self, sync: bool, read: Accepted) -> Received
         requires { in_range read.set ≡ true }
         ensures { result ≡ accepted self.rec sync read.set read.repaired }
