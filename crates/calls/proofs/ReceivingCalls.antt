@@ -43,6 +43,11 @@ pub receive_owes : (way : Way) (c : ReceiveCall receive_kind) → CodeReceivesBy
 receive_owes by_value c k = subst⁻¹ Owed k.observed (λ i. (k.contract i).answer, λ i. (k.contract i).next)
 receive_owes in_place c k = subst⁻¹ Owed k.observed k.contract
 
+-- and a call that has them is such a call, in each way
+pub owed_made : (way : Way) (c : ReceiveCall receive_kind) → Owed c → CodeReceivesBy way c
+owed_made way c h =
+    subst⁻¹ (CodeReceivesBy way) (λ i. receive_call (receive_order c) c.given (frame_in c) (h.0 i) (h.1 i)) (receive_had way c.given c.arguments)
+
 -- so a receiving call of the code does what the model does
 pub code_receives : (c : ReceiveCall receive_kind) → CodeReceives c → ReceiveStep c
 unfolding receive

@@ -61,6 +61,14 @@ pub soft_owes : (way : Way) (d : SoftCall) → CodeReceivesSoft way d → SoftOw
 soft_owes by_value d m = subst⁻¹ SoftOwed m.observed (λ i. (m.contract i).answer, λ i. (m.contract i).next)
 soft_owes in_place d m = subst⁻¹ SoftOwed m.observed m.contract
 
+-- and a call that has them is such a call, in each way
+pub soft_owed_made : (way : Way) (d : SoftCall) → SoftOwed d → CodeReceivesSoft way d
+soft_owed_made way d h =
+    subst⁻¹
+    (CodeReceivesSoft way)
+    (λ i. record { order = d.order; frame = d.frame; confidences = d.confidences; given = d.given; answer = h.0 i; left = h.1 i })
+    (soft_made d.order d.given d.frame d.confidences way)
+
 -- a frame that is received alike with these confidences and without: the model's step
 plain_step : (way : Way) (d : SoftCall) → CodeReceivesSoft way d
     → soft_receive d.order d.given d.frame d.confidences ≡ receive d.order d.given d.frame → ReceiveStep (plainly d)
