@@ -1,21 +1,21 @@
 -- `spectrum::values::of_codebooks` meets its contract: the first call that is refused counts. Assumes nothing.
 use mathlib.Core.Path.{◌≡◌, ◌∙◌}
 use borrow.Author.Rules.{rules}
-use Rattle.std.specs.Prelude.{Err}
+use Rattle.std.specs.Prelude.{Ok}
+use Rattle.codebook_values.specs.Values.{lsf_answer}
 use Rattle.spectrum.proofs.Answers.{lsf_refused, magnitudes_refused, values_found}
 use Rattle.spectrum.proofs.values.of_codebooks.Goals as goal
 
 pub returns-in_err-lsf_values : goal.returns-in_err-lsf_values
 returns-in_err-lsf_values c =
     let a = c.args in
-    let r : c.from_residual.result ≡ Err c.in_err-lsf_values.field-0.0 = search rules in
-    r ∙ lsf_refused a.set a.lsf.now a.magnitudes.now _ c.in_err-lsf_values.ensures.answer
+    search rules ∙ lsf_refused a.set a.lsf.now a.magnitudes.now c.in_err-lsf_values.field-0.0 c.in_err-lsf_values.ensures.answer
 
 pub returns-in_err-magnitudes : goal.returns-in_err-magnitudes
 returns-in_err-magnitudes c =
     let a = c.args in
-    let r : c.from_residual-in_err-magnitudes.result ≡ Err c.in_err-magnitudes.field-0.0 = search rules in
-    r ∙ magnitudes_refused a.set a.lsf.now a.magnitudes.now _ c.in_ok-lsf_values.ensures.answer c.in_err-magnitudes.ensures.answer
+    let lsf_passed : Ok tt ≡ lsf_answer a.set a.lsf.now 10 = search rules in
+    search rules ∙ magnitudes_refused a.set a.lsf.now a.magnitudes.now c.in_err-magnitudes.field-0.0 lsf_passed c.in_err-magnitudes.ensures.answer
 
 pub returns : goal.returns
 returns c =
