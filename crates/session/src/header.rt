@@ -8,7 +8,7 @@ use text::Name;
 
 const FRAMES: Name = *b"frames=.........";
 
-// How many digits a number of at most four has.
+// How many digits a number of at most four has. By cases: with `checked_ilog10` and `map_or` it was tried, and the proof did not close.
 fn digits_in(n: usize) -> usize
     requires { n ≤ 9999 }
     ensures { result ≡ length (decimal n) }

@@ -3,7 +3,7 @@ ghost use Rattle.std.specs.Prelude.{◌≡◌, ◌+◌, ◌≤◌, ◌<◌, leng
 ghost use Rattle.text.specs.Placing.{Put};
 ghost use Rattle.session.specs.Format.{hex_digit, hex_pair};
 
-// A lower-case digit.
+// A lower-case digit. By hand: std's digits are characters.
 fn digit(d: u8) -> u8
     requires { d < 16 }
     ensures { result ≡ hex_digit d }

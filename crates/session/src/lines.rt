@@ -1,4 +1,5 @@
-// The lines of frames.
+// The lines of frames. The buffer and the place stay two parameters, as in `text`: a struct of both would need a clause more in
+// each, that it still lends the same buffer.
 ghost use Rattle.std.specs.Prelude.{◌≡◌, ◌+◌, ◌*◌, ◌≤◌, length};
 ghost use Rattle.text.specs.Placing.{Put};
 ghost use Rattle.session.specs.Format.{hex_text, frame_line, frame_lines};

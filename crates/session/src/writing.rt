@@ -17,8 +17,8 @@ fn write_text(frames: &[[u8; 7]], out: &mut [u8]) -> usize
     write_lines(frames, out, end)
 }
 
-// The text of frames, seven bytes each, to the front of `out`. Refused, in this order: not 0 to 2,000 whole frames; an output
-// shorter than the text; a frame with one of its last two bits set.
+// The text of frames, seven bytes each, to the front of `out`. Refused, in this order: 2, not 0 to 2,000 whole
+// frames; 1, an output shorter than the text; 3, a frame with one of its last two bits set.
 pub fn write(frames: &[u8], out: &mut [u8]) -> Result<usize, Refusal>
     ensures answer { result ≡ write_answer frames.now (length out.old) }
     ensures written { out.new ≡ write_writes frames.now out.old }
