@@ -14,7 +14,7 @@ pub(crate) struct Copied {
 }
 
 // The frames of a text to the front of `out`, until the reader hands on none. `Reader::next` hands back the reader after it, and so is no
-// iterator: the text and the offset are kept here.
+// iterator: the text and the offset are kept here. The loop counts, since where the frames end is seven times their number.
 pub(crate) fn copy_frames(text: &[u8], out: &mut [u8]) -> Copied
     requires { 7 * most_frames ≤ length out.old }
     ensures answer { result.answer ≡ (reading text.now).answer }

@@ -4,7 +4,8 @@ ghost use Rattle.std.specs.Counts.{IsPrefixLen};
 ghost use Rattle.session.specs.Format.{most_text};
 ghost use Rattle.to_session.specs.Output.{most_input, AllWritten};
 
-// The file, and the line of a refusal.
+// The file, and the line of a refusal. from_session has a type like it, with frames for the file: what stands there is another thing,
+// and one name for both would say neither.
 #[derive(Clone, Copy, Debug, PartialEq, Eq)]
 pub(crate) struct Written<'a> {
     pub(crate) file: &'a [u8],
