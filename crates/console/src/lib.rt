@@ -73,7 +73,7 @@ pub fn write_all<W: Write>(to: &mut W, bytes: &[u8]) -> io::Result<()>
     Ok(())
 }
 
-// One write, again where a signal cut it short. A failed write gives the writer nothing.
+// One write, again where a signal cut it short; the count is there since a loop has to end. A failed write gives the writer nothing.
 fn write_retrying<W: Write>(to: &mut W, bytes: &[u8]) -> io::Result<usize>
     ensures size { IfOk result (λ n. n ≤ length bytes.now) }
     ensures bytes { WriteAppends (W.contents to.old) (W.contents to.new) result bytes.now }
