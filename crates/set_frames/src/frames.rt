@@ -4,8 +4,8 @@ ghost use Rattle.set_frames.specs.Sending.{sets_in, set_answer, set_writes, sent
 
 use refusal::Refusal;
 
-// The frame of set k to its place in `out`, and the next sync bit. Refused: bytes that are not those of a set that a sender
-// takes; a list that is no order.
+// The frame of set k to its place in `out`, and the next sync bit. Refused: 5, bytes that are not those of a set that a sender
+// takes; 10, a list that is no order.
 fn pack_set(
     bytes: &[u8; 11],
     k: usize,
@@ -40,7 +40,7 @@ fn pack_all(bytes: &[u8], order: &[u8], out: &mut [u8]) -> usize
     7 * sets.len()
 }
 
-// The same, for any output. Refused: an output that has room for fewer frames than there are sets.
+// The same, for any output. Refused: 1, an output that has room for fewer frames than there are sets.
 pub fn pack_sets(bytes: &[u8], order: &[u8], out: &mut [u8]) -> Result<usize, Refusal>
     ensures answer { result ≡ frames_answer order.now bytes.now (length out.old) }
     ensures written { out.new ≡ frames_writes order.now bytes.now out.old }
