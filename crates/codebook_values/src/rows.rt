@@ -1,8 +1,7 @@
 // The rows that a set in range names in a whole codebook.
 ghost use Rattle.std.specs.Prelude.{◌≡◌, ◌≤◌, ◌<◌, true, eqb, length, get_or, pos, nat_abs, ◌+ℤ◌, IfOk};
 ghost use Rattle.std.specs.Result.{result_err};
-ghost use Rattle.codebook.specs.Rows.{lsf_size, stage_rows, lsf_row, lsf_fits, all_fit};
-ghost use Rattle.codebook.specs.Rows.{magnitude_size};
+ghost use Rattle.codebook.specs.Rows.{lsf_size, stage_rows, lsf_row, lsf_fits, all_fit, magnitude_size};
 ghost use Rattle.sets.specs.Sets.{indices_fit};
 ghost use Rattle.codebook_values.specs.Values.{added_four, rows_fit, of_rows, magnitudes, magnitudes_fit};
 ghost use Rattle.codebook_values.specs.Checks.{rows_refusal};
