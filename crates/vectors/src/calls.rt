@@ -1,64 +1,81 @@
 // The call of a vector, by its kind.
-ghost use Rattle.std.specs.Prelude.{◌≤◌, length};
-
 use crate::codebooks::codebook_of;
-use crate::set_calls::set_call_agrees;
+use crate::orders::order_fits;
 use crate::vector::Vector;
 use crate::{
-    choosing, frames, orders, parameters, rows, sessions, short, soft_words, state, texts, values,
+    choosing, frames, orders, packing, parameters, receiving, rows, sessions, short, soft_words,
+    state, texts, values,
 };
+use sets::ParameterSet;
 
-// Whether the call with this codebook agrees.
-fn lent_agrees(vector: &Vector, kind: u8, codebook: &[i64]) -> bool
-    requires { length codebook.now ≤ 3201 }
+// A call with the set in bytes 1 to 11; where these are those of no set, no call agrees.
+fn with_set<F: FnOnce(&Vector, ParameterSet) -> bool>(vector: &Vector, agrees: F) -> bool
+    requires { F.IsAlwaysCallable agrees }
 {
-    match kind {
-        16 => rows::lsf_row_agrees(vector, codebook),
-        17 => rows::magnitude_row_agrees(vector, codebook),
-        18 | 19 => values::values_agree(vector, kind, codebook),
-        _ => texts::text_agrees(vector, kind, codebook),
+    match set_bytes::read(vector.part(1, 11)) {
+        Ok(set) => agrees(vector, set),
+        Err(_) => false,
     }
 }
 
-// Kinds 16 to 21: calls with a codebook of at most 3,201 numbers.
-fn codebook_call_agrees(vector: &Vector, kind: u8) -> bool {
-    let size = vector.number(16, 2);
-    size <= 3201 && lent_agrees(vector, kind, &codebook_of(vector)[..size])
+// The same with an order, of at most 60 entries.
+fn with_order<F: FnOnce(&Vector, ParameterSet) -> bool>(vector: &Vector, agrees: F) -> bool
+    requires { F.IsAlwaysCallable agrees }
+{
+    order_fits(vector) && with_set(vector, agrees)
 }
 
-// The kinds with an order, of at most 60 entries.
-fn ordered_agrees(vector: &Vector, kind: u8) -> bool {
-    orders::order_fits(vector)
-        && match kind {
-            10 => frames::frame_agrees(vector),
-            11 => frames::logical_agrees(vector),
-            35 => soft_words::taking_agrees(vector),
-            36 => orders::list_agrees(vector),
-            _ => set_call_agrees(vector, kind),
-        }
+// A call with a codebook, of at most 3,201 numbers.
+fn with_codebook<F: FnOnce(&Vector, &[i64]) -> bool>(vector: &Vector, agrees: F) -> bool
+    requires { F.IsAlwaysCallable agrees }
+{
+    match codebook_of(vector).get(..vector.number(16, 2)) {
+        Some(codebook) => agrees(vector, codebook),
+        None => false,
+    }
 }
 
 // Whether the libraries answer as the vector says; no vector of another kind agrees. The kinds are numbers, as tests/reference
 // writes them into the files of vectors.
 pub(crate) fn agrees(vector: &Vector) -> bool {
-    let kind = vector.kind();
-    match kind {
-        1 | 9 | 10 | 11 | 22 | 32 | 33 | 35 | 36 => ordered_agrees(vector, kind),
-        12 | 14 | 34 => set_call_agrees(vector, kind),
+    match vector.kind() {
+        1 => with_order(vector, packing::pack_agrees),
+        2 => short::class_agrees(vector),
+        3 => short::code_agrees(vector),
+        4 => short::word_agrees(vector),
+        5 => short::parity_agrees(vector),
+        6 => short::first_level_agrees(vector),
+        7 => short::level_agrees(vector),
         8 => choosing::choice_agrees(vector),
+        9 => with_order(vector, receiving::by_value_agrees),
+        10 => order_fits(vector) && frames::frame_agrees(vector),
+        11 => order_fits(vector) && frames::logical_agrees(vector),
+        12 => with_set(vector, parameters::ranges_agree),
         13 => frames::reading_agrees(vector),
+        14 => with_set(vector, state::tests_agree),
         15 => state::fresh_agrees(vector),
+        16 => with_codebook(vector, rows::lsf_row_agrees),
+        17 => with_codebook(vector, rows::magnitude_row_agrees),
+        18 => with_codebook(vector, values::lsf_values_agree),
+        19 => with_codebook(vector, values::magnitudes_agree),
+        20 => with_codebook(vector, texts::lsf_agrees),
+        21 => with_codebook(vector, texts::magnitudes_agree),
+        22 => with_order(vector, receiving::in_place_agrees),
         23 => parameters::reading_agrees(vector),
         24 => parameters::writing_agrees(vector),
-        25 | 26 => sessions::step_agrees(vector, kind),
+        25 => sessions::parsing_agrees(vector),
+        26 => sessions::reading_agrees(vector),
         27 => sessions::write_agrees(vector),
         28 => sessions::header_agrees(vector),
         29 => sessions::line_agrees(vector),
         30 => soft_words::choice_agrees(vector),
         31 => soft_words::reading_agrees(vector),
+        32 => with_order(vector, receiving::soft_agrees),
+        33 => with_order(vector, receiving::soft_in_place_agrees),
+        34 => with_set(vector, state::taken_over_agrees),
+        35 => order_fits(vector) && soft_words::taking_agrees(vector),
+        36 => order_fits(vector) && orders::list_agrees(vector),
         37 => orders::default_agrees(vector),
-        2..=7 => short::short_agrees(vector, kind),
-        16..=21 => codebook_call_agrees(vector, kind),
         _ => false,
     }
 }

@@ -13,7 +13,8 @@ pub(crate) fn decimal_digit(n: usize, i: usize) -> u8 {
     b'0' + (left % 10) as u8
 }
 
-// How many digits a number of at most five has.
+// How many digits a number of at most five has. By cases: from them the bound follows at once, and from std's logarithm it
+// does not.
 pub(crate) fn digits_in(n: usize) -> usize
     ensures { result ≤ 5 }
 {

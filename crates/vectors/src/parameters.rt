@@ -1,7 +1,7 @@
 // Vectors of parameter sets: their ranges, and their bytes.
 ghost use Rattle.std.specs.Prelude.{◌≤◌};
 
-use crate::vector::Vector;
+use crate::vector::{Vector, refused};
 use sets::ParameterSet;
 
 // Kind 12: the ranges and the indices of a set.
@@ -46,14 +46,12 @@ fn fields_agree(vector: &Vector, start: usize, set: ParameterSet) -> bool
 // Kind 23: the set in bytes.
 pub(crate) fn reading_agrees(vector: &Vector) -> bool {
     let size = vector.number(1, 1);
-    let refusal = vector.byte(14);
-    if 12 < size {
-        return false;
-    }
-    match set_bytes::read(vector.part(2, size)) {
-        Ok(set) => (refusal == 0) & fields_agree(vector, 15, set),
-        Err(f) => (refusal == f.number()) & vector.bytes_agree(15, &[0; 11]),
-    }
+    let read = set_bytes::read(vector.part(2, size));
+    let told = match read {
+        Ok(set) => fields_agree(vector, 15, set),
+        Err(_) => vector.bytes_agree(15, &[0; 11]),
+    };
+    (size <= 12) & (vector.byte(14) == refused(read)) & told
 }
 
 // Kind 24: the bytes of a set. The set is the one in the expected bytes, if its fields are those in bytes 1 to 11.

@@ -1,26 +1,23 @@
 // The frames of a session file and its lines, by the rule of a vector. The lines go on without end.
-ghost use Rattle.std.specs.Prelude.{◌<◌, ◌≤◌};
+ghost use Rattle.std.specs.Prelude.{◌≤◌};
 
 use crate::digits::{decimal_digit, digits_in, hex_digit};
 
 // Byte j of the frames: the first one, each next one 11 more, and no padding bits.
-pub(crate) fn frame_byte(j: usize, first: u8) -> u8
-    requires { j < 65792 }
-{
-    let b = ((11 * j + first as usize) % 256) as u8;
+pub(crate) fn frame_byte(j: usize, first: u8) -> u8 {
+    let b = ((j % 256) as u8).wrapping_mul(11).wrapping_add(first);
     if j % 7 == 6 { b - b % 4 } else { b }
 }
 
-// Byte k of the line of frame i.
-fn line_byte(i: usize, k: usize, first: u8) -> u8
-    requires { (i < 4000) × (k < 17) }
-{
+// Byte j of the lines of frames, 17 bytes each.
+fn line_byte(j: usize, first: u8) -> u8 {
+    let k = j % 17;
     match k {
         0 => b'f',
         1 => b'=',
         16 => b'\n',
         _ => {
-            let b = frame_byte(7 * i + k / 2 - 1, first);
+            let b = frame_byte(j / 17 * 7 + k / 2 - 1, first);
             hex_digit(if k % 2 == 0 { b / 16 } else { b % 16 })
         }
     }
@@ -40,13 +37,10 @@ fn header_byte(j: usize, frames: usize, digits: usize) -> u8
 }
 
 // Byte j of the lines that tell so many frames.
-pub(crate) fn session_byte(j: usize, frames: usize, first: u8) -> u8
-    requires { j < 65792 }
-{
+pub(crate) fn session_byte(j: usize, frames: usize, first: u8) -> u8 {
     let digits = digits_in(frames);
     if j < 30 + digits {
         return header_byte(j, frames, digits);
     }
-    let k = j - 30 - digits;
-    line_byte(k / 17, k % 17, first)
+    line_byte(j - 30 - digits, first)
 }

@@ -28,21 +28,24 @@ fn answer_agrees(vector: &Vector, answer: Result<Option<[u8; 7]>, LineRefusal>) 
     }
 }
 
-// A step at an offset of a text: by the parser in kind 25, by a reader in kind 26.
-fn step_at(kind: u8, text: &[u8], at: usize) -> Step {
-    if kind == 25 {
-        session_reader::parse_at(text, at)
-    } else {
-        session_reader::read_at(text, at)
-    }
-}
-
-// Kinds 25 and 26: a step at the offset in bytes 10 to 17; the answer, the frame, and the offset after it.
-pub(crate) fn step_agrees(vector: &Vector, kind: u8) -> bool {
+// A step at the offset in bytes 10 to 17: the answer, the frame, and the offset after it.
+fn step_agrees<F: FnOnce(&[u8], usize) -> Step>(vector: &Vector, step_at: F) -> bool
+    requires { F.IsAlwaysCallable step_at }
+{
     let mut buffer = console::large_buffer();
     let text = write_text(vector, &mut buffer);
-    let step = step_at(kind, text, vector.number(10, 8));
+    let step = step_at(text, vector.number(10, 8));
     answer_agrees(vector, step.answer) & (vector.number(29, 8) == step.at)
+}
+
+// Kind 25: a step by the parser.
+pub(crate) fn parsing_agrees(vector: &Vector) -> bool {
+    step_agrees(vector, |text, at| session_reader::parse_at(text, at))
+}
+
+// Kind 26: a step by a reader.
+pub(crate) fn reading_agrees(vector: &Vector) -> bool {
+    step_agrees(vector, |text, at| session_reader::read_at(text, at))
 }
 
 // So many bytes of frames to the front of a buffer, one of them replaced; what is put past the last one is not lent.
@@ -75,10 +78,7 @@ fn output_agrees(vector: &Vector, out: &[u8; 34100], room: usize) -> bool {
 pub(crate) fn write_agrees(vector: &Vector) -> bool {
     let size = vector.number(10, 2);
     let room = vector.number(15, 2);
-    if 14014 < size {
-        return false;
-    }
-    if 34100 < room {
+    if 14014 < size || 34100 < room {
         return false;
     }
     let mut buffer = console::large_buffer();

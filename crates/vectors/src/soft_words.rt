@@ -11,9 +11,7 @@ use order::SoftBits;
 fn confidences_of<const N: usize>(vector: &Vector, start: usize) -> [u8; N]
     requires { start + N ≤ 256 }
 {
-    let mut confidences = [0; N];
-    confidences.copy_from_slice(&vector.bytes[start..start + N]);
-    confidences
+    vector.bytes[start..start + N].try_into().unwrap()
 }
 
 // Kind 30: choosing a word, with the eight confidences in bytes 3 to 10.

@@ -16,7 +16,7 @@ fn kinds_of(bits: usize) -> [FrameKind; 16] {
     kinds
 }
 
-// A byte and the bits of sixteen kinds as the number of their three bytes.
+// A byte and the bits of sixteen kinds as the number of their three bytes, of which each turn keeps the last 23 bits.
 fn bits_of(before: u8, kinds: [FrameKind; 16]) -> usize {
     kinds.iter().fold(usize::from(before), |bits, kind| {
         bits % 8388608 * 2 + usize::from(kind.repeat)

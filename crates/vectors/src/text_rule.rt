@@ -16,9 +16,7 @@ fn numbered_byte(j: usize) -> u8 {
 }
 
 // Byte j of the plain text: these lines in kinds 20 and 21, otherwise those of a session file.
-fn plain_byte(vector: &Vector, j: usize) -> u8
-    requires { j < 65792 }
-{
+fn plain_byte(vector: &Vector, j: usize) -> u8 {
     if vector.kind() < 22 {
         return numbered_byte(j);
     }

@@ -1,24 +1,43 @@
 // Vectors of LSF values and magnitudes.
 use crate::codebooks::{HELD, numbers_agree};
 use crate::vector::{Vector, refused};
+use refusal::Refusal;
 use sets::ParameterSet;
 
-// Whether the values of a set by a codebook, and their output, are those in bytes 72 to 169: the refusal, and twelve numbers.
-fn written_agrees(vector: &Vector, kind: u8, set: ParameterSet, codebook: &[i64]) -> bool {
-    let room = vector.number(12, 1);
-    if 12 < room {
+// Whether the values of the set in bytes 1 to 11 by a codebook, and their output, are those in bytes 72 to 169: the refusal,
+// and twelve numbers. Where these are the bytes of no set, no call agrees.
+fn values_agree<F: FnOnce(ParameterSet, &[i64], &mut [i64]) -> Result<(), Refusal>>(
+    vector: &Vector,
+    codebook: &[i64],
+    write: F,
+) -> bool
+    requires { F.IsAlwaysCallable write }
+{
+    let Ok(set) = set_bytes::read(vector.part(1, 11)) else {
         return false;
-    }
-    let mut out = [HELD; 12];
-    let answer = if kind == 18 {
-        codebook_values::lsf_values(set, codebook, &mut out[..room])
-    } else {
-        codebook_values::magnitudes(set, codebook, &mut out[..room])
     };
+    let mut out = [HELD; 12];
+    let Some(room) = out.get_mut(..vector.number(12, 1)) else {
+        return false;
+    };
+    let answer = write(set, codebook, room);
     (vector.byte(72) == refused(answer)) & numbers_agree(vector, &out)
 }
 
-// Kinds 18 and 19: values of the set in bytes 1 to 11; where these are those of no set, no call agrees.
-pub(crate) fn values_agree(vector: &Vector, kind: u8, codebook: &[i64]) -> bool {
-    set_bytes::read(vector.part(1, 11)).is_ok_and(|set| written_agrees(vector, kind, set, codebook))
+// Kind 18: the LSF values.
+pub(crate) fn lsf_values_agree(vector: &Vector, codebook: &[i64]) -> bool {
+    values_agree(
+        vector,
+        codebook,
+        |set, codebook, room| codebook_values::lsf_values(set, codebook, room),
+    )
+}
+
+// Kind 19: the magnitudes.
+pub(crate) fn magnitudes_agree(vector: &Vector, codebook: &[i64]) -> bool {
+    values_agree(
+        vector,
+        codebook,
+        |set, codebook, room| codebook_values::magnitudes(set, codebook, room),
+    )
 }

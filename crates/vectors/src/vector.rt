@@ -33,7 +33,8 @@ impl Vector {
         n
     }
 
-    // The part that has this start and size; nothing where it does not fit.
+    // The part that has this start and size; nothing where it does not fit. No `Option`: who calls it tests the size, or takes
+    // nothing for what does not fit.
     pub(crate) fn part(&self, start: usize, size: usize) -> &[u8]
         requires { start ≤ 256 }
     {
@@ -62,8 +63,5 @@ pub(crate) fn joined(high: u8, middle: u8, low: u8) -> usize {
 
 // The number of a refusal as a vector has it; 0 stands there for no refusal.
 pub(crate) fn refused<T: Copy>(answer: Result<T, Refusal>) -> u8 {
-    match answer {
-        Ok(_) => 0,
-        Err(refusal) => refusal.number(),
-    }
+    answer.map_or_else(|refusal| refusal.number(), |_| 0)
 }
