@@ -15,7 +15,8 @@ fn numbered_byte(j: usize) -> u8 {
     }
 }
 
-// Byte j of the plain text: these lines in kinds 20 and 21, otherwise those of a session file.
+// Byte j of the plain text: these lines in kinds 20 and 21, otherwise those of a session file. The kind tells, since a vector
+// has its text by it; a closure would be handed down through each caller of `write_text`, and say no more.
 fn plain_byte(vector: &Vector, j: usize) -> u8 {
     if vector.kind() < 22 {
         return numbered_byte(j);
