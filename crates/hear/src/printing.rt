@@ -1,4 +1,5 @@
-// The text of a call, sent in large parts.
+// The text of a call, sent in large parts. The writer and the bytes stay two parameters, of which two functions need the bytes
+// for their clauses alone: a struct that lends the writer would need a clause in each, that it still lends the same one.
 ghost use Rattle.std.specs.Prelude.{◌≡◌, ◌+◌, ◌≤◌, length, take, IfOk, OnOk, OnErr};
 ghost use Rattle.std.specs.Io.KnownBytes.{Appends};
 ghost use Rattle.std.specs.Counts.{IsPrefixLen};

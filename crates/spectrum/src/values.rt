@@ -22,7 +22,8 @@ pub(crate) fn of_frame(bytes: &[u8], lsf: &[u8], magnitudes: &[u8]) -> Result<Sp
     of_texts(result.set, lsf, magnitudes)
 }
 
-// The values of a set by the texts of both codebooks, which are judged before any row.
+// The values of a set by the texts of both codebooks, which are judged before any row. The two stay two parameters: each goes
+// to a call of its own, and a struct of both would be made to be taken apart.
 fn of_texts(set: ParameterSet, lsf: &[u8], magnitudes: &[u8]) -> Result<Spectrum, Refusal>
     ensures { result ≡ of_texts set lsf.now magnitudes.now }
 {

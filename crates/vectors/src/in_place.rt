@@ -15,8 +15,8 @@ pub(crate) fn in_place(rec: Record, frame: &[u8], order: &[u8]) -> Received
     Received { answer, next: kept }
 }
 
-// The same with a confidence for each place of the frame. Two, as the calls are: a proof would know nothing of what a closure
-// left in the record that it borrowed.
+// The same with a confidence for each place of the frame. Two, as the calls are: one for both would be handed the call, with a
+// clause for what it leaves in the record, and is no plainer.
 pub(crate) fn soft_in_place(rec: Record, frame: &[u8], order: &[u8], confidences: &[u8]) -> Received
     ensures { result ≡ soft_receive order.now rec frame.now confidences.now }
 {

@@ -23,7 +23,8 @@
 //   sessions       reading and writing session files
 //   digits         digits of numbers
 //
-// Functions of other crates are passed in closures: passed by their names alone they were not proved. What is compared is
+// Functions of other crates are passed in closures: passed by their names alone they were not proved. Each function that is
+// handed a closure asks that it may be called: no bound of its type says so. What is compared is
 // joined by `&`: each comparison may always be made, so a proof needs no case of it.
 #![tactic(auto)]
 

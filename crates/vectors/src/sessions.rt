@@ -66,7 +66,8 @@ fn holds(out: &[u8; 34100], text: &[u8]) -> bool {
         .is_some_and(|rest| rest.iter().all(|b| *b == HELD))
 }
 
-// Whether the output has the text of the vector, which must fit in the bytes that were lent of it.
+// Whether the output has the text of the vector, which must fit in the bytes that were lent of it. The buffer comes whole, since
+// the bytes past those that were lent must be as before too.
 fn output_agrees(vector: &Vector, out: &[u8; 34100], room: usize) -> bool {
     let mut buffer = console::large_buffer();
     let text = write_text(vector, &mut buffer);
