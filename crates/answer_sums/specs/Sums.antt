@@ -1,8 +1,7 @@
 -- Helpers of a measurement, no part of document 01: all numbers that a frame is answered, added up, and a number in bytes.
 use Rattle.std.specs.Prelude.{ℕ, ◌+◌, ◌-◌, ◌/◌, ◌%◌, ◌^◌, List, [], ◌∷◌, Result, Ok, Err}
 use Rattle.bits.specs.Bits.{bit_num, cut}
-use Rattle.refusal.specs.Refusals.{number_of}
-use Rattle.refusal.specs.declared.Refusal.{Refusal}
+use Rattle.refusal.specs.Refusals.{number_of, numbered}
 use Rattle.sets.specs.declared.Indices.{Indices}
 use Rattle.sets.specs.declared.Voicing.{Voicing}
 use Rattle.sets.specs.declared.ParameterSet.{ParameterSet}
@@ -30,18 +29,18 @@ kind_sum kind.Unvoiced = 0
 kind_sum kind.Voiced = 1
 kind_sum kind.Repeat = 2
 
--- of a result, and of an answer
+-- of a result, and of an answer: its result, or the number of what refused it
 abbrev pub result_sum : FrameResult → ℕ
 result_sum r = kind_sum r.kind + set_sum r.set + (r.first + r.second) + (bit_num r.mute + bit_num r.sync) + r.repaired
 
-abbrev pub answer_sum : Result FrameResult Refusal → ℕ
+abbrev pub answer_sum : Result FrameResult ℕ → ℕ
 answer_sum (Ok r) = result_sum r
-answer_sum (Err f) = number_of f
+answer_sum (Err n) = n
 
 -- of frames that are received one after another from a record on: what each is answered, added up
 abbrev pub sum_from : (Record → List ℕ → Received) → Record → List (List ℕ) → ℕ
 sum_from receive rec [] = 0
-sum_from receive rec (frame ∷ frames) = answer_sum (receive rec frame).answer + sum_from receive (receive rec frame).next frames
+sum_from receive rec (frame ∷ frames) = answer_sum (numbered number_of (receive rec frame).answer) + sum_from receive (receive rec frame).next frames
 
 -- a number in eight bytes, most significant first
 abbrev pub eight_bytes : ℕ → List ℕ

@@ -1,9 +1,10 @@
 // What one answer adds to the sum: all its numbers. The bounds are those of their types.
 ghost use Rattle.std.specs.Prelude.{◌≡◌, ◌≤◌};
+ghost use Rattle.refusal.specs.Refusals.{numbered};
 ghost use Rattle.answer_sums.specs.Sums.{indices_sum, voicing_sum, set_sum, kind_sum, result_sum, answer_sum};
 
 use receiver::{FrameResult, Kind};
-use refusal::Refusal;
+use refusal::Numbered;
 use sets::{Indices, ParameterSet, Voicing};
 
 // The indices of a set.
@@ -61,8 +62,8 @@ fn of_result(res: FrameResult) -> u64
 }
 
 // An answer: the numbers of its result, or its refusal.
-pub fn of_answer(answer: Result<FrameResult, Refusal>) -> u64
-    ensures number { result ≡ answer_sum answer }
+pub fn of_answer<E: Numbered>(answer: Result<FrameResult, E>) -> u64
+    ensures number { result ≡ answer_sum (numbered E.number answer) }
     ensures bound { result ≤ 10000000000 }
 {
     match answer {

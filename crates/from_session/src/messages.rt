@@ -8,7 +8,7 @@ ghost use Rattle.from_session.specs.Output.{most_input, refusal_line, AllWritten
 
 use crate::frames::copy_frames;
 use session_reader::LineRefusal;
-use text::{Name, byte, number, place};
+use text::{Name, byte, end_of, number, place};
 
 const REFUSED: Name = *b"refused=........";
 
@@ -26,9 +26,12 @@ fn write_message(refused: LineRefusal, out: &mut [u8]) -> usize
     requires { 60 ≤ length out.old }
     ensures { Put out.old 0 (refusal_line (number_of refused.refusal) refused.line) out.new result }
 {
-    let numbered = byte(REFUSED, 8, refused.refusal.number(), out, 0).unwrap_or(0);
-    let end = number(LINE, 6, u64::from(refused.line), out, numbered).unwrap_or(numbered);
-    place(b"\n", out, end).unwrap_or(end)
+    let numbered = end_of(byte(REFUSED, 8, refused.refusal.number(), out, 0), 0);
+    let end = end_of(
+        number(LINE, 6, u64::from(refused.line), out, numbered),
+        numbered,
+    );
+    end_of(place(b"\n", out, end), end)
 }
 
 // The frames and the line for the standard input of which the first `size` bytes of a buffer were read. The buffer comes whole, since

@@ -11,6 +11,7 @@ use Rattle.std.proofs.KnownBytes.{Appends-trans}
 use Rattle.console.specs.Fronts.{AppendsFront}
 use Rattle.console.proofs.Fronts.{front_more}
 use Rattle.order.specs.Order.{default_order}
+use Rattle.refusal.specs.Refusals.{number_of, numbered}
 use Rattle.report.specs.Lines.{frame_line, last_line}
 use Rattle.text.specs.Placing.{Appended}
 use Rattle.receiver.specs.Frames.{frames_in, answer_at}
@@ -44,7 +45,7 @@ text_before_append bytes k zero =
     ([], ap (text_before bytes) e ∙ sym (append-nil (text_before bytes k)))
 text_before_append bytes k (suc j) =
     let g = text_before_append bytes k j in
-    let line = frame_line (k + j) (answer_at default_order bytes (k + j)) in
+    let line = frame_line (k + j) (numbered number_of (answer_at default_order bytes (k + j))) in
     let e : k + suc j ≡ suc (k + j) = omega arith in
     (g.0 ++ line, ap (text_before bytes) e ∙ ap (λ (l : List ℕ). l ++ line) g.1 ∙ append_assoc (text_before bytes k) g.0 line)
 

@@ -4,6 +4,7 @@ use Rattle.std.specs.declared.option.Option.{Option}
 use Rattle.std.specs.Io.KnownBytes.{Appends}
 use Rattle.bits.specs.Lists.{ReadFrom}
 use Rattle.console.specs.Fronts.{AppendsFront}
+use Rattle.refusal.specs.Refusals.{number_of, numbered}
 use Rattle.refusal.specs.declared.Refusal.{Refusal}
 use Rattle.order.specs.Order.{default_order}
 use Rattle.receiver.specs.declared.Kind.{Kind}
@@ -29,7 +30,7 @@ repeat_of (Err f) = 0
 -- the first line and those of the first k frames
 unfoldable pub text_before : List ℕ → ℕ → List ℕ
 text_before bytes zero = first_line
-text_before bytes (suc k) = text_before bytes k ++ frame_line k (answer_at default_order bytes k)
+text_before bytes (suc k) = text_before bytes k ++ frame_line k (numbered number_of (answer_at default_order bytes k))
 
 -- how many of the first k frames are of kind R
 unfoldable pub repeats_before : List ℕ → ℕ → ℕ

@@ -2,6 +2,7 @@
 ghost use Rattle.std.specs.Prelude.{◌≡◌, suc, ◌+◌, ◌≤◌, ◌<◌, length};
 ghost use Rattle.order.specs.Order.{default_order};
 ghost use Rattle.records.specs.Records.{fresh};
+ghost use Rattle.refusal.specs.Refusals.{number_of, numbered};
 ghost use Rattle.report.specs.Lines.{frame_line};
 ghost use Rattle.text.specs.Placing.{Appended};
 ghost use Rattle.receiver.specs.Receiving.{receive};
@@ -11,6 +12,7 @@ use crate::output::{Sent, nothing};
 use receiver::{FrameResult, Kind, Received};
 use records::Record;
 use refusal::Refusal;
+use text::end_of;
 
 // How far a call is received: the receiver's record, how many frames were repeats, how many bytes of the text are
 // sent, and where the others end in the buffer. The buffer stays beside it: a struct that lends it would need a clause in each
@@ -54,7 +56,7 @@ pub(crate) fn take_frame(before: Progress, k: usize, frame: &[u8; 7], out: &mut 
     ensures repeats { result.repeats ≡ before.repeats + repeat_of (receive default_order before.rec frame.now).answer }
     ensures count { result.repeats ≤ suc k }
     ensures sent { result.sent.count ≡ before.sent.count }
-    ensures line { Appended out.old before.end (frame_line k (receive default_order before.rec frame.now).answer) out.new result.end }
+    ensures line { Appended out.old before.end (frame_line k (numbered number_of (receive default_order before.rec frame.now).answer)) out.new result.end }
     ensures bound { result.end ≤ before.end + 144 }
 {
     let order = order::default_order();
@@ -62,7 +64,10 @@ pub(crate) fn take_frame(before: Progress, k: usize, frame: &[u8; 7], out: &mut 
     Progress {
         rec: next,
         repeats: before.repeats + repeat_of(answer),
-        end: report::frame_line(k as u64, answer, out, before.end).unwrap_or(before.end),
+        end: end_of(
+            report::frame_line(k as u64, answer, out, before.end),
+            before.end,
+        ),
         ..before
     }
 }

@@ -11,6 +11,7 @@ use crate::frames::{Progress, begin, take_frame};
 use crate::output::{Sent, send};
 use std::io;
 use std::io::Write;
+use text::end_of;
 
 // Room for a line more: a buffer that is nearly full is sent.
 fn make_room<W: Write>(
@@ -69,18 +70,15 @@ fn print_text<W: Write>(to: &mut W, bytes: &[u8], out: &mut [u8; 65536]) -> io::
     ensures written { OnOk result (Appends (W.contents to.old) (W.contents to.new) (text bytes.now)) }
     ensures failed { OnErr result (AppendsFront (W.contents to.old) (W.contents to.new) (text bytes.now)) }
 {
-    let first = report::first_line(out, 0).unwrap_or(0);
+    let first = end_of(report::first_line(out, 0), 0);
     let frames = bytes.len() / 7;
     let left = bytes.len() % 7;
     let printed = print_frames(to, bytes, out, first)?;
     let ready = make_room(to, printed, bytes, frames, out)?;
-    let end = report::last_line(
-        frames as u64,
-        ready.repeats,
-        left as u64,
-        out,
+    let end = end_of(
+        report::last_line(frames as u64, ready.repeats, left as u64, out, ready.end),
         ready.end,
-    ).unwrap_or(ready.end);
+    );
     send(to, bytes, &out[..end], ready.sent)
 }
 

@@ -29,3 +29,8 @@ first_refusal (row ∷ rows) = cond row.0 (Some row.1) (first_refusal rows)
 abbrev pub unless : {A : Type 0} → Option Refusal → A → Result A Refusal
 unless None x = Ok x
 unless (Some f) x = Err f
+
+-- an answer with a number in place of what refused it
+abbrev pub numbered : {A E : Type 0} → (E → ℕ) → Result A E → Result A ℕ
+numbered number (Ok x) = Ok x
+numbered number (Err f) = Err (number f)

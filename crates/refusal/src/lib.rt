@@ -1,8 +1,14 @@
 // The numbered refusals of a call, each by the place of the table that it stands for.
+//
+//   numbered  what has a number of a refusal
 #![tactic(auto)]
+
+mod numbered;
 
 ghost use Rattle.std.specs.Prelude.{◌≡◌};
 ghost use Rattle.refusal.specs.Refusals.{number_of};
+
+pub use numbered::Numbered;
 
 // What refuses a call, in the order of the numbers.
 #[derive(Clone, Copy, Debug, PartialEq, Eq)]

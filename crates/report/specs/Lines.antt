@@ -1,7 +1,5 @@
 -- Document 01, "Program hear": its lines.
 use Rattle.std.specs.Prelude.{ℕ, Bool, true, false, List, ◌++◌, Result, Ok, Err}
-use Rattle.refusal.specs.Refusals.{number_of}
-use Rattle.refusal.specs.declared.Refusal.{Refusal}
 use Rattle.sets.specs.Sets.{indices_in}
 use Rattle.sets.specs.declared.Indices.{Indices}
 use Rattle.sets.specs.declared.ParameterSet.{ParameterSet}
@@ -55,13 +53,13 @@ result_text r =
     ++ field " fixed=" (decimal r.repaired)
     ++ field " mute=" (flag r.mute)
 
--- what a frame was answered
-abbrev pub answer_text : Result FrameResult Refusal → List ℕ
+-- what a frame was answered, or the number of what refused it
+abbrev pub answer_text : Result FrameResult ℕ → List ℕ
 answer_text (Ok r) = result_text r
-answer_text (Err f) = field " refused=" (decimal (number_of f))
+answer_text (Err n) = field " refused=" (decimal n)
 
 -- the line of frame k
-unfoldable pub frame_line : ℕ → Result FrameResult Refusal → List ℕ
+unfoldable pub frame_line : ℕ → Result FrameResult ℕ → List ℕ
 frame_line k answer = field "frame=" (decimal k) ++ answer_text answer ++ ascii "\n"
 
 -- the last line: how many frames, how many of them repeats, how many bytes after the last whole frame

@@ -4,7 +4,7 @@ ghost use Rattle.text.specs.Text.{decimal};
 ghost use Rattle.text.specs.Placing.{Put};
 ghost use Rattle.session.specs.Format.{header};
 
-use text::Name;
+use text::{Name, end_of};
 
 const FRAMES: Name = *b"frames=.........";
 
@@ -34,7 +34,7 @@ pub(crate) fn write_header(n: usize, out: &mut [u8]) -> usize
     requires { length (header n) ≤ length out.old }
     ensures { Put out.old 0 (header n) out.new result }
 {
-    let count = text::place(b"file=melp\norder=house\n", out, 0).unwrap_or(0);
-    let digits = text::number(FRAMES, 7, n as u64, out, count).unwrap_or(count);
-    text::place(b"\n", out, digits).unwrap_or(digits)
+    let count = end_of(text::place(b"file=melp\norder=house\n", out, 0), 0);
+    let digits = end_of(text::number(FRAMES, 7, n as u64, out, count), count);
+    end_of(text::place(b"\n", out, digits), digits)
 }

@@ -6,6 +6,7 @@ ghost use Rattle.spectrum.specs.Lines.{lines, text};
 
 use crate::values::Spectrum;
 use refusal::Refusal;
+use text::end_of;
 use value_lines::{refusal_line, value_line};
 
 // All that the program prints, to the front of a buffer; how many bytes it is.
@@ -18,7 +19,7 @@ pub(crate) fn write_text(spectrum: Result<Spectrum, Refusal>, out: &mut [u8; 512
             let at = write_lines(&values.lsf, out, 0);
             write_lines(&values.magnitudes, out, at)
         }
-        Err(refusal) => refusal_line(refusal.number(), out, 0).unwrap_or(0),
+        Err(refusal) => end_of(refusal_line(refusal.number(), out, 0), 0),
     }
 }
 
@@ -31,7 +32,7 @@ fn write_lines(numbers: &[i64; 10], out: &mut [u8], at: usize) -> usize
 {
     let mut end = at;
     for &number in numbers {
-        end = value_line(number, out, end).unwrap_or(end);
+        end = end_of(value_line(number, out, end), end);
     }
     end
 }

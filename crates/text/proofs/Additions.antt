@@ -5,16 +5,15 @@ use Prim.Native.Nat.{ℕ, ◌+◌, ◌≤◌}
 use native.Mathlib.Omega.{arith}
 use lib.ListN.{length}
 use Rattle.std.specs.Prelude.{Result}
-use Rattle.std.specs.Result.{result_unwrap_or}
 use Rattle.refusal.specs.declared.Refusal.{Refusal}
-use Rattle.text.specs.Placing.{place_answer, place_writes, Appended}
+use Rattle.text.specs.Placing.{place_answer, place_writes, end_of, Appended}
 use Rattle.text.proofs.Answers.{owed_put}
 use Rattle.text.proofs.Puts.{put_appended}
 
 module _ (text out after : List ℕ) (at most : ℕ) (answer : Result ℕ Refusal) (end : ℕ) where
   -- what a call for a line owes, where the buffer has room for `most` bytes
   pub line_added : (answer ≡ place_answer text at (length out)) × ((after ≡ place_writes text at out) × (length text ≤ most))
-      → end ≡ result_unwrap_or answer at → at + most ≤ length out → Appended out at text after end × (end ≤ at + most)
+      → end ≡ end_of answer at → at + most ≤ length out → Appended out at text after end × (end ≤ at + most)
   line_added h e room =
       let p = owed_put text at out after answer end (h.0, h.1.0) e (omega (arith, h.1.1)) in
       (put_appended out after at end text (omega arith) p, omega (arith, p.0, h.1.1))

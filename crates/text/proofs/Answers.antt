@@ -16,8 +16,8 @@ use Rattle.text.specs.Placing.{place_answer, place_writes, end_of, Put, PutIfRoo
 abbrev pub Owes : List ℕ → ℕ → List ℕ → List ℕ → Result ℕ Refusal → Type 0
 Owes text at out after answer = (answer ≡ place_answer text at (length out)) × (after ≡ place_writes text at out)
 
--- a caller that takes `at` where more was refused is where the text ends
-pub end_of_is : (answer : Result ℕ Refusal) (at : ℕ) → result_unwrap_or answer at ≡ end_of answer at
+-- where a text ends is what std's `unwrap_or` gives
+pub end_of_is : {E : Type 0} (answer : Result ℕ E) (at : ℕ) → result_unwrap_or answer at ≡ end_of answer at
 end_of_is (Ok end) at = refl
 end_of_is (Err f) at = refl
 
@@ -33,11 +33,11 @@ module _ (text : List ℕ) (at : ℕ) (out : List ℕ) where
   room_owes after end h p = let e = le-ltb (length out) (at + length text) h in (simp e (ap Ok p.0), simp e p.1)
 
   -- what a call has put where there was room
-  pub owed_put : (after : List ℕ) (answer : Result ℕ Refusal) (end : ℕ) → Owes text at out after answer → end ≡ result_unwrap_or answer at → PutIfRoom out at text after end
+  pub owed_put : (after : List ℕ) (answer : Result ℕ Refusal) (end : ℕ) → Owes text at out after answer → end ≡ end_of answer at → PutIfRoom out at text after end
   unfolding place_answer place_writes
   owed_put after answer end o n room =
       let e = le-ltb (length out) (at + length text) room in
-      (n ∙ end_of_is answer at ∙ ap (λ (x : Result ℕ Refusal). end_of x at) o.0 ∙ simp e, o.1 ∙ simp e)
+      (n ∙ ap (λ (x : Result ℕ Refusal). end_of x at) o.0 ∙ simp e, o.1 ∙ simp e)
 
 -- what the test tells
 module _ (size at length : ℕ) (t : Bool) (is : t ≡ ltb size (at + length)) where

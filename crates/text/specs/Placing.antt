@@ -30,7 +30,7 @@ unfoldable pub place_writes : List ℕ → ℕ → List ℕ → List ℕ
 place_writes text at out = writes_unless (place_refusal text at (length out)) text at out
 
 -- where a text ends after the answer to a call for a line
-abbrev pub end_of : Result ℕ Refusal → ℕ → ℕ
+abbrev pub end_of : {E : Type 0} → Result ℕ E → ℕ → ℕ
 end_of (Ok end) at = end
 end_of (Err f) at = at
 

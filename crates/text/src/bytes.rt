@@ -33,7 +33,7 @@ pub fn place(text: &[u8], out: &mut [u8], at: usize) -> Result<usize, Refusal>
 }
 
 // Where a text ends after the answer to a call for more of it; one that was refused leaves it at `at`.
-pub fn end_of(answer: Result<usize, Refusal>, at: usize) -> usize
+pub fn end_of<E: Drop>(answer: Result<usize, E>, at: usize) -> usize
     ensures { result ≡ end_of answer at }
 {
     answer.unwrap_or(at)

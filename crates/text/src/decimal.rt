@@ -43,7 +43,7 @@ fn write_hundreds(n: u64, out: &mut [u8], at: usize) -> usize
 }
 
 // A number of up to four digits.
-fn write_short(n: u64, out: &mut [u8], at: usize) -> usize
+pub(crate) fn write_short(n: u64, out: &mut [u8], at: usize) -> usize
     requires { (n < 10000) × (at + length (decimal n) ≤ length out.old) }
     ensures { Put out.old at (decimal n) out.new result }
 {

@@ -5,7 +5,7 @@ ghost use Rattle.text.specs.Placing.{place_answer, place_writes};
 
 use crate::Name;
 use crate::bytes::{append, is_too_short, place};
-use crate::decimal::write_decimal;
+use crate::decimal::{write_decimal, write_short};
 use refusal::Refusal;
 
 // The first `width` bytes of a name.
@@ -23,38 +23,35 @@ pub fn name(name: Name, width: usize, out: &mut [u8], at: usize) -> Result<usize
     place(front(&name, width), out, at)
 }
 
-// A name, and a number after it. Refused: 1, the buffer ends before the text.
+// A name, and a number after it. Refused: 1, the buffer ends before the text. Where there is room for the longest number, it is
+// written there straight away.
 pub fn number(name: Name, width: usize, n: u64, out: &mut [u8], at: usize) -> Result<usize, Refusal>
     ensures answer { result ≡ place_answer (take width name ++ decimal n) at (length out.old) }
     ensures written { out.new ≡ place_writes (take width name ++ decimal n) at out.old }
 {
-    put_number(front(&name, width), n, 20, out, at)
+    let text = front(&name, width);
+    if is_too_short(out.len(), at, text.len() + 20) {
+        return put_exactly(text, n, out, at);
+    }
+    let digits = append(text, out, at);
+    Ok(write_decimal(n, out, digits))
 }
 
-// The same of a number of one byte, which has at most three digits. Refused: 1, the buffer ends before the text.
+// The same of a number of one byte, which has at most three digits. Refused: 1, the buffer ends before the text. It is not one
+// function with `number`: with `write_short` alone the compiler builds it in whole.
 pub fn byte(name: Name, width: usize, n: u8, out: &mut [u8], at: usize) -> Result<usize, Refusal>
     ensures answer { result ≡ place_answer (take width name ++ decimal n) at (length out.old) }
     ensures written { out.new ≡ place_writes (take width name ++ decimal n) at out.old }
 {
-    put_number(front(&name, width), u64::from(n), 3, out, at)
-}
-
-// A text of at most 16 bytes, and a number of at most `most` digits after it. Where there is room for so many, it is written
-// there straight away.
-fn put_number(name: &[u8], n: u64, most: usize, out: &mut [u8], at: usize) -> Result<usize, Refusal>
-    requires width { length name.now ≤ 16 }
-    requires digits { (length (decimal n) ≤ most) × (most ≤ 20) }
-    ensures answer { result ≡ place_answer (name.now ++ decimal n) at (length out.old) }
-    ensures written { out.new ≡ place_writes (name.now ++ decimal n) at out.old }
-{
-    if is_too_short(out.len(), at, name.len() + most) {
-        return put_exactly(name, n, out, at);
+    let text = front(&name, width);
+    if is_too_short(out.len(), at, text.len() + 3) {
+        return put_exactly(text, u64::from(n), out, at);
     }
-    let digits = append(name, out, at);
-    Ok(write_decimal(n, out, digits))
+    let digits = append(text, out, at);
+    Ok(write_short(u64::from(n), out, digits))
 }
 
-// The same by way of a buffer of its own.
+// A text of at most 16 bytes, and a number after it, by way of a buffer of its own.
 fn put_exactly(name: &[u8], n: u64, out: &mut [u8], at: usize) -> Result<usize, Refusal>
     requires { length name.now ≤ 16 }
     ensures answer { result ≡ place_answer (name.now ++ decimal n) at (length out.old) }

@@ -1,6 +1,6 @@
 // Text as bytes in a lent buffer, of any length. Each call writes a whole text from `at` on and answers where it
 // ends; where the buffer ends before the text, it writes nothing and is refused with `ShortOutput`. A caller that goes on
-// where the last text ends asks for `.unwrap_or(at)`. It is not std's printing: of that nothing is promised.
+// where the last text ends takes `end_of` it. It is not std's printing: of that nothing is promised.
 //
 // The buffer and the place stay two parameters of each function of this crate: a struct of both would need one more clause in
 // each, that it still lends the same buffer.

@@ -4,6 +4,8 @@ ghost use Rattle.std.specs.Counts.{IsPrefixLen};
 ghost use Rattle.session.specs.Format.{most_text};
 ghost use Rattle.to_session.specs.Output.{most_input, AllWritten};
 
+use text::end_of;
+
 // The file, and the line of a refusal. from_session has a type like it, with frames for the file: what stands there is another thing,
 // and one name for both would say neither.
 #[derive(Clone, Copy, Debug, PartialEq, Eq)]
@@ -30,7 +32,7 @@ pub(crate) fn write_file<'a>(
             message: &[],
         },
         Err(refusal) => {
-            let end = value_lines::refusal_line(refusal.number(), message, 0).unwrap_or(0);
+            let end = end_of(value_lines::refusal_line(refusal.number(), message, 0), 0);
             Written {
                 file: &[],
                 message: &message[..end],

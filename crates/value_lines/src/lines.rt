@@ -5,7 +5,7 @@ ghost use Rattle.text.specs.Placing.{place_answer, place_writes};
 ghost use Rattle.value_lines.specs.Lines.{value_line, refusal_line};
 
 use refusal::Refusal;
-use text::Name;
+use text::{Name, end_of};
 
 const REFUSED: Name = *b"refused=........";
 
@@ -16,7 +16,7 @@ pub fn value_line(x: i64, out: &mut [u8], at: usize) -> Result<usize, Refusal>
     ensures bound { length (value_line x) ≤ 22 }
 {
     let mut line = [b'\n'; 22];
-    let end = text::signed(x, &mut line, 0).unwrap_or(0);
+    let end = end_of(text::signed(x, &mut line, 0), 0);
     text::place(&line[..end + 1], out, at)
 }
 
@@ -27,6 +27,6 @@ pub fn refusal_line(n: u8, out: &mut [u8], at: usize) -> Result<usize, Refusal>
     ensures bound { length (refusal_line n) ≤ 22 }
 {
     let mut line = [b'\n'; 22];
-    let end = text::byte(REFUSED, 8, n, &mut line, 0).unwrap_or(0);
+    let end = end_of(text::byte(REFUSED, 8, n, &mut line, 0), 0);
     text::place(&line[..end + 1], out, at)
 }

@@ -17,9 +17,9 @@ returns c =
     let n = c.number in
     let number = field "refused=" (decimal n.result) in
     let line = field " line=" (decimal c.args.refused.line) in
-    let p = owed_put number 0 out _ _ _ (c.byte.ensures.answer, c.byte.ensures.written) c.unwrap_or-numbered.ensures in
-    let q = owed_put line _ _ _ _ _ (rw c.from.ensures at c.number-2.ensures.answer, rw c.from.ensures at c.number-2.ensures.written) c.unwrap_or-end.ensures in
-    let r = owed_put (ascii "\n") _ _ _ _ _ (c.place.ensures.answer, c.place.ensures.written) c.unwrap_or.ensures in
+    let p = owed_put number 0 out _ _ _ (c.byte.ensures.answer, c.byte.ensures.written) c.end_of-numbered.ensures in
+    let q = owed_put line _ _ _ _ _ (rw c.from.ensures at c.number-2.ensures.answer, rw c.from.ensures at c.number-2.ensures.written) c.end_of-end.ensures in
+    let r = owed_put (ascii "\n") _ _ _ _ _ (c.place.ensures.answer, c.place.ensures.written) c.end_of.ensures in
     let short : length (number ++ (line ++ ascii "\n")) ≤ 23 =
     omega (
       arith,

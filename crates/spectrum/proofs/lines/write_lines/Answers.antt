@@ -30,7 +30,7 @@ loop-number-preserved c =
     let x = get_or numbers i (pos 0) in
     let w = c.value_line.ensures in
     let h : i < length numbers = omega arith in
-    let q = line_added (value_line (to_z w64 (of_z w64 x))) L.out _ L.end 22 _ _ (w.answer, (w.written, w.bound)) c.unwrap_or-end.ensures (omega arith) in
+    let q = line_added (value_line (to_z w64 (of_z w64 x))) L.out _ L.end 22 _ _ (w.answer, (w.written, w.bound)) c.end_of-end.ensures (omega arith) in
     let e = rw (number_back x (search rules)) at q.0 in
     let m : lines (take (i + 1) numbers) ≡ lines (take i numbers) ++ value_line x = rw add-one (lines_more numbers i (pos 0) h) in
     record {

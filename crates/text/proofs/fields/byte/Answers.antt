@@ -1,7 +1,23 @@
--- `text::fields::byte` meets its contract: a number of one byte has at most three digits. Assumes nothing.
+-- `text::fields::byte` meets its contract: where there is room for three digits there is room for the number. Assumes nothing.
 use native.Mathlib.Omega.{arith}
+use lib.ListN.{length-append}
+use Rattle.text.specs.Text.{decimal}
+use Rattle.text.proofs.Answers.{room_owes, test_room}
 use Rattle.text.proofs.Decimals.{decimal_length}
+use Rattle.text.proofs.Puts.{put_append}
 use Rattle.text.proofs.fields.byte.Goals as goal
 
-pub put_number-requires-clause-digits : goal.put_number-requires-clause-digits
-put_number-requires-clause-digits c = (decimal_length 2 c.from.result (omega arith), omega arith)
+pub write_short-requires : goal.write_short-requires
+write_short-requires c =
+    let room = test_room _ _ _ _ c.is_too_short.ensures c.if-is_too_short.false in
+    (omega arith, omega (arith, room, decimal_length 2 c.from-2.result (omega arith), c.append-digits.ensures.0, c.append-digits.auto.out))
+
+pub returns : goal.returns
+returns c =
+    let a = c.args in
+    let t = c.front-text.result.now in
+    let most = decimal_length 2 a.n (omega arith) in
+    let room = test_room _ _ _ _ c.is_too_short.ensures c.if-is_too_short.false in
+    let p = room_owes _ _ _ _ _ (omega (arith, room, most, length-append t (decimal a.n)))
+    (put_append a.out.now _ _ a.at _ _ t (decimal a.n) (omega (arith, room, most)) c.append-digits.ensures (rw c.from-2.ensures at c.write_short.ensures)) in
+    rw (← c.front-text.ensures) (record { answer = p.0; written = p.1 })

@@ -13,5 +13,5 @@ pub returns : goal.returns
 returns c =
     let a = c.args in
     let l = a.self.now in
-    let p = owed_put (take a.width a.name ++ decimal a.n) l.end l.out.now _ _ _ (c.byte.ensures.answer, c.byte.ensures.written) c.unwrap_or-self.ensures in
+    let p = owed_put (take a.width a.name ++ decimal a.n) l.end l.out.now _ _ _ (c.byte.ensures.answer, c.byte.ensures.written) c.end_of-self.ensures in
     record { put = p; bound = field_le a.name a.width (decimal a.n) 3 (decimal_length 2 a.n (omega arith)); same = refl }

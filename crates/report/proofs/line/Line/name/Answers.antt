@@ -9,5 +9,5 @@ pub returns : goal.returns
 returns c =
     let a = c.args in
     let l = a.self.now in
-    let p = owed_put (take a.width a.name) l.end l.out.now _ _ _ (c.name.ensures.answer, c.name.ensures.written) c.unwrap_or-self.ensures in
+    let p = owed_put (take a.width a.name) l.end l.out.now _ _ _ (c.name.ensures.answer, c.name.ensures.written) c.end_of-self.ensures in
     record { put = p; bound = omega (arith, length-take a.width a.name); same = refl }
