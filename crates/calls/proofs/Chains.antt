@@ -7,12 +7,9 @@ use Prim.Native.Nat.{ℕ, suc}
 use lib.Dec.{T}
 use lib.ListN.{length}
 use Rattle.std.specs.Prelude.{Result, Ok}
-use Rattle.refusal.specs.declared.Refusal.{Refusal}
 use Rattle.bits.specs.Bits.{cut}
 use Rattle.bits.proofs.Cut.{cut_suc}
-use Rattle.order.specs.Order.{logical_bit}
 use Rattle.frame.specs.Layout.{frame}
-use Rattle.reading.specs.Reading.{read}
 use Rattle.sets.proofs.Ranges.{sendable_fits}
 use Rattle.records.specs.Records.{valid}
 use Rattle.receiver.specs.Steps.{accepted}
@@ -20,17 +17,13 @@ use Rattle.receiver.specs.Receiving.{receive}
 use Rattle.receiver.specs.declared.FrameResult.{FrameResult}
 use Rattle.records.specs.declared.Record.{Record}
 use Rattle.receiver.specs.declared.Received.{Received}
-use Rattle.receiver.proofs.Results.{result_in, step_answers, accepted_valid}
-use Rattle.damage.proofs.Arrival.{packed_accepted, arrived_taken}
-use Rattle.calls.specs.Model.{done, Outcome, outcomes, PackKind, ReceiveKind, outcome_of, receive_model, ReceiveArguments, receive_kind}
+use Rattle.receiver.proofs.Results.{result_in, accepted_valid}
+use Rattle.damage.proofs.Arrival.{packed_accepted}
+use Rattle.calls.specs.Model.{done, Outcome, outcomes, PackKind, ReceiveKind, outcome_of, receive_model, receive_kind}
 use Rattle.calls.specs.Calls.{sent}
 use Rattle.calls.specs.Frames.{Row, set_of}
+use Rattle.calls.proofs.Steps.{model_is}
 use Rattle.calls.proofs.Rows.{Known, Chain, got}
-
--- the model of document 01's own calls gives what the receiver gives
-model_is : (r : Record) (x : ReceiveArguments) → receive_model receive_kind r x ≡ outcome_of (receive x.order r x.frame)
-unfolding receive
-model_is r x = refl
 
 module _ (ord : List ℕ) {P : PackKind} {R : ReceiveKind} where
   -- each row has the channel's flips of its frame
@@ -45,11 +38,8 @@ module _ (ord : List ℕ) {P : PackKind} {R : ReceiveKind} where
       → map (λ w. w.receiving.answer) ws ≡ map (λ w. Ok w.result) ws
   chain_answers r u flips [] h = refl
   chain_answers r u flips (w ∷ ws) h =
-      let k = h.0 in
-      let e = arrived_taken ord k.is_order_lem r k.is_valid w.packing.given w.flips (set_of w) in
-      let whole : (receive ord r (got ord w)).answer ≡ Ok (result_in (receive ord r (got ord w)).answer) =
-      subst⁻¹ (λ (y : Received). y.answer ≡ Ok (result_in y.answer)) e (step_answers r _ (read (logical_bit ord (got ord w)))) in
-      ap₂ (λ (a : Result FrameResult Refusal) (l : List (Result FrameResult Refusal)). a ∷ l) (k.answers ∙ whole ∙ ap Ok (sym k.result_is)) (chain_answers (receive ord r (got ord w)).next _ _ ws h.2)
+      ap₂ (λ (a : Result FrameResult R.Refused) (l : List (Result FrameResult R.Refused)). a ∷ l) (h.0.answers ∙ ap Ok (sym h.0.result_is))
+      (chain_answers (receive ord r (got ord w)).next _ _ ws h.2)
 
   -- what the clean receiver makes of the frame as sent
   clean_takes : (r u : Record) (w : Row P R) → Known ord r u w → T (valid u)

@@ -26,7 +26,7 @@ use Rattle.calls.specs.Model.{pack_kind, receive_kind}
 use Rattle.calls.specs.Calls.{PackCall, pack_order, pack_call_refusal, sent, PackStep}
 use Rattle.calls.specs.Calls.{ReceiveCall, receive_order, frame_in, receive_call_refusal, ReceiveStep}
 use Rattle.calls.specs.Return.{ReadsBits, Returns, DefinedReturn, CallsReturn}
-use Rattle.calls.proofs.Steps.{pack_order_lem, pack_sendable, pack_sent, receive_answer, receive_left}
+use Rattle.calls.proofs.Steps.{pack_order_lem, pack_sendable, pack_sent, receive_result, receive_answer, receive_left}
 
 module _ (ord : List ℕ) (o : Order ord) where
   -- the frame of any bits is not refused, and is read as they are
@@ -46,7 +46,7 @@ module _ (d : ReceiveCall receive_kind) (l : ReceiveStep d) (v : T (valid d.give
 
   module _ (y : Received) (e : receive (receive_order d) d.given (frame_of (receive_order d) g) ≡ y) where
     call_answer : d.answer ≡ y.answer
-    call_answer = receive_answer d l call_taken ∙ ap (λ (x : Received). x.answer) (ap (receive (receive_order d) d.given) f ∙ e)
+    call_answer = receive_answer d l call_taken ∙ sym (receive_result d l call_taken) ∙ ap (λ (x : Received). x.answer) (ap (receive (receive_order d) d.given) f ∙ e)
 
     call_record : d.left ≡ y.next
     call_record = receive_left d l call_taken ∙ ap (λ (x : Received). x.next) (ap (receive (receive_order d) d.given) f ∙ e)

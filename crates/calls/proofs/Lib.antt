@@ -11,6 +11,7 @@ pub mod ReceivingCalls
 pub mod Scripts
 pub mod Sessions
 pub mod Demands
+pub mod OwnRefusals
 pub mod SoftCalls
 pub mod TakenOver
 pub mod TakenOverHad

@@ -8,7 +8,7 @@ use denote.Ref.{Bor, MutBor}
 use lib.ListN.{length, take, drop}
 use lib.Seq.{take-append_seam}
 use Rattle.std.specs.Prelude.{Option, None, Some}
-use Rattle.refusal.specs.Refusals.{unless}
+use Rattle.refusal.specs.Refusals.{number_of, unless}
 use Rattle.refusal.specs.declared.Refusal.{Refusal}
 use Rattle.order.proofs.Frames.{frame_length}
 use Rattle.frame.specs.Layout.{logical_of, frame}
@@ -49,10 +49,10 @@ module _ (ord : List ℕ) (set : ParameterSet) (sync : Bool) where
   pub pack_step : (lent : List ℕ) (n : Option Refusal) → pack_refusal ord set (length lent) ≡ n
       → PackStep (pack_call ord set sync lent (unless n (not sync)) (written_unless n 7 (frame ord set sync) lent))
   pack_step lent None e = record {
-    outcome = (λ i. record { answer = done (frame_front (drop 7 lent) i); state = not sync }) ∙ sym (ap (λ (n : Option Refusal). pack_unless n ord sync set) e);
+    outcome = (λ i. record { answer = done (frame_front (drop 7 lent) i); state = not sync }) ∙ sym (ap (λ (n : Option Refusal). pack_unless number_of n ord sync set) e);
     output = ap (λ (l : List ℕ). l ++ drop 7 lent) (sym (frame_front (drop 7 lent)));
   }
-  pack_step lent (Some f) e = record { outcome = sym (ap (λ (n : Option Refusal). pack_unless n ord sync set) e); output = refl }
+  pack_step lent (Some f) e = record { outcome = sym (ap (λ (n : Option Refusal). pack_unless number_of n ord sync set) e); output = refl }
 
 -- so a packing call of the code does what the model does
 pub code_packs : (c : PackCall pack_kind) → CodePacks c → PackStep c

@@ -1,12 +1,13 @@
 -- Receiving calls of the code, by value and in place: what the toolchain reads in the contracts of `receiver::receive` and
 -- `receiver::receive_in_place` is the model's step.
 -- Assumes nothing.
-use mathlib.Core.Path.{refl, subst⁻¹}
+use mathlib.Core.Path.{refl, sym, ◌∙◌, subst⁻¹}
 use mathlib.Core.List.{[]}
 use Rattle.receiver.specs.Receiving.{receive}
 use Rattle.records.specs.declared.Record.{Record}
 use Rattle.calls.specs.Model.{answer_of, ReceiveArguments, receive_kind}
 use Rattle.calls.specs.Calls.{ReceiveCall, receive_order, frame_in, ReceiveStep}
+use Rattle.calls.proofs.Steps.{model_is}
 use Rattle.calls.proofs.PackingCalls.{slice, lent_to_write}
 use Rattle.calls.specs.CodeCalls.{receive_call, Answered, Leaves, InPlaceSays, Way, by_value, in_place, CodeReceivesBy, CodeReceives}
 
@@ -50,7 +51,6 @@ owed_made way c h =
 
 -- so a receiving call of the code does what the model does
 pub code_receives : (c : ReceiveCall receive_kind) → CodeReceives c → ReceiveStep c
-unfolding receive
 code_receives c k =
     let h = receive_owes k.0 c k.1 in
-    λ i. record { answer = answer_of (h.0 i); state = h.1 i }
+    (λ i. record { answer = answer_of (h.0 i); state = h.1 i }) ∙ sym (model_is c.given c.arguments)

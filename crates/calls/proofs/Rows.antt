@@ -5,7 +5,7 @@ use mathlib.Core.Bool.{Bool}
 use mathlib.Core.List.{List, [], ◌∷◌, map, nil≢cons, cons≢nil, head-eq_of_cons-eq, tail-eq_of_cons-eq}
 use Prim.Native.Nat.{ℕ, suc}
 use lib.Dec.{T}
-use Rattle.std.specs.Prelude.{None}
+use Rattle.std.specs.Prelude.{None, Ok}
 use Rattle.order.specs.Order.{Order, through}
 use Rattle.sets.specs.Sets.{sendable}
 use Rattle.frame.specs.Layout.{frame}
@@ -48,7 +48,7 @@ module _ (ord : List ℕ) {P : PackKind} {R : ReceiveKind} where
     pub may_send : T (sendable (set_of w))
     pub is_sent : sent w.packing ≡ frame ord (set_of w) w.packing.given
     pub is_valid : T (valid r)
-    pub answers : w.receiving.answer ≡ (receive ord r (got w)).answer
+    pub answers : w.receiving.answer ≡ Ok (result_in (receive ord r (got w)).answer)
     pub leaves : w.receiving.left ≡ (receive ord r (got w)).next
     pub result_is : w.result ≡ result_in (receive ord r (got w)).answer
     pub clean_is : w.clean ≡ result_in (receive ord u (frame ord (set_of w) w.packing.given)).answer
@@ -61,21 +61,20 @@ module _ (ord : List ℕ) {P : PackKind} {R : ReceiveKind} where
       × Chain (receive ord r (got w)).next (receive ord u (frame ord (set_of w) w.packing.given)).next (λ k. flips (suc k)) ws
 
   -- the row of a packing call and the receiving call that got its frame
-  abbrev row_of : Record → (ℕ → Bool) → PackCall P → ReceiveCall R → Row P R
-  row_of u fl p q = record {
+  abbrev row_of : Record → Record → (ℕ → Bool) → PackCall P → ReceiveCall R → Row P R
+  row_of r u fl p q = record {
     packing = p;
     flips = fl;
     receiving = q;
-    result = result_in q.answer;
+    result = result_in (receive ord r (arrived ord (set_in p) p.given fl)).answer;
     clean = result_in (receive ord u (frame ord (set_in p) p.given)).answer;
   }
 
   row_known : (r u : Record) (fl : ℕ → Bool) (p : PackCall P) (q : ReceiveCall R) → PacksFrame ord p → TakesFrame ord q → q.given ≡ r → frame_in q ≡ through fl (sent p)
-      → Known r u (row_of u fl p q)
+      → Known r u (row_of r u fl p q)
   row_known r u fl p q k l g e =
       let same : frame_in q ≡ arrived ord (set_in p) p.given fl = e ∙ ap (through fl) (packs_frame ord p k) in
       let there : receive (receive_order q) q.given (frame_in q) ≡ receive ord r (arrived ord (set_in p) p.given fl) = λ i. receive (l.1 i) (g i) (same i) in
-      let answer = receive_answer q l.0.0 l.0.1 ∙ ap (λ (y : Received). y.answer) there in
       record {
         is_order_lem = packs_order ord p k;
         may_send = pack_sendable p k.0.0 k.0.1;
@@ -83,9 +82,9 @@ module _ (ord : List ℕ) {P : PackKind} {R : ReceiveKind} where
         is_valid =
             subst (λ (y : Record). T (valid y)) g
             (not_refused_only (receive_order q) q.given (frame_in q) (R.covers q.given q.arguments l.0.1)).1;
-        answers = answer;
+        answers = receive_answer q l.0.0 l.0.1 ∙ ap (λ (y : Received). Ok (result_in y.answer)) there;
         leaves = receive_left q l.0.0 l.0.1 ∙ ap (λ (y : Received). y.next) there;
-        result_is = ap result_in answer;
+        result_is = refl;
         clean_is = refl;
       }
 
@@ -103,11 +102,11 @@ module _ (ord : List ℕ) {P : PackKind} {R : ReceiveKind} where
   calls_aligned s r u flips [] (q ∷ qs) h j e = absurd (cons≢nil e)
   calls_aligned s r u flips (p ∷ ps) [] h j e = absurd (nil≢cons e)
   calls_aligned s r u flips (p ∷ ps) (q ∷ qs) h j e =
-      let here : Known r u (row_of u (flips 0) p q) = row_known r u (flips 0) p q h.1 j.1 j.0 (head-eq_of_cons-eq e) in
+      let here : Known r u (row_of r u (flips 0) p q) = row_known r u (flips 0) p q h.1 j.1 j.0 (head-eq_of_cons-eq e) in
       let goes_on = subst (λ (y : Record). ReceiveRun (TakesFrame ord) y qs) here.leaves j.2 in
       let rest = calls_aligned (pack_left p) _ (receive ord u (frame ord (set_in p) p.given)).next (λ k. flips (suc k)) ps qs h.2 goes_on (tail-eq_of_cons-eq e) in
       record {
-        rows = row_of u (flips 0) p q ∷ rest.rows;
+        rows = row_of r u (flips 0) p q ∷ rest.rows;
         packings = ap (λ (l : List (PackCall P)). p ∷ l) rest.packings;
         receivings = ap (λ (l : List (ReceiveCall R)). q ∷ l) rest.receivings;
         chain = (here, refl, rest.chain);

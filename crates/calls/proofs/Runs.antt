@@ -4,7 +4,6 @@
 use mathlib.Core.Path.{◌≡◌, refl, sym, ap, ◌∙◌, subst}
 use mathlib.Core.List.{List, [], ◌∷◌, map}
 use Rattle.std.specs.Prelude.{Option, None, Some}
-use Rattle.refusal.specs.declared.Refusal.{Refusal}
 use Rattle.calls.specs.Model.{Outcome, outcomes}
 use Rattle.calls.specs.Calls.{Run, keep_unless, unrefused}
 use Rattle.bits.specs.Lists.{Every}
@@ -37,27 +36,27 @@ module _ {C S : Type 0} (given left : C → S) (Keeps : C → Type 0) where
   run_with P s (c ∷ cs) h e = (h.0, (h.1, e.0), run_with P (left c) cs h.2 e.1)
 
   -- the calls that are not refused follow one another, since a refused one leaves the state
-  pub run_unrefused : (refusal : C → Option Refusal) → ((c : C) (f : Refusal) → Keeps c → refusal c ≡ Some f → left c ≡ given c) → (s : S) (cs : List C)
+  pub run_unrefused : {F : Type 0} (refusal : C → Option F) → ((c : C) (f : F) → Keeps c → refusal c ≡ Some f → left c ≡ given c) → (s : S) (cs : List C)
       → Run given left Keeps s cs → Run given left (λ c. Keeps c × (refusal c ≡ None)) s (unrefused refusal cs)
   run_unrefused refusal leaves s [] h = tt
   run_unrefused refusal leaves s (c ∷ cs) h = go (refusal c) refl (λ (t : S). run_unrefused refusal leaves t cs)
     where
-      go : (n : Option Refusal) → refusal c ≡ n → ((t : S) → Run given left Keeps t cs → Run given left (λ c. Keeps c × (refusal c ≡ None)) t (unrefused refusal cs))
+      go : (n : Option _) → refusal c ≡ n → ((t : S) → Run given left Keeps t cs → Run given left (λ c. Keeps c × (refusal c ≡ None)) t (unrefused refusal cs))
           → Run given left (λ c. Keeps c × (refusal c ≡ None)) s (keep_unless n c (unrefused refusal cs))
       go None e rest = (h.0, (h.1, e), rest (left c) h.2)
       go (Some f) e rest = rest s (subst (λ (t : S). Run given left Keeps t cs) (leaves c f h.1 e ∙ h.0) h.2)
 
 -- a refused call is not kept
-pub refused_left_out : {C : Type 0} (n : Option Refusal) (c : C) (cs : List C) → ¬ (n ≡ None) → keep_unless n c cs ≡ cs
+pub refused_left_out : {C F : Type 0} (n : Option F) (c : C) (cs : List C) → ¬ (n ≡ None) → keep_unless n c cs ≡ cs
 refused_left_out None c cs h = absurd (h refl)
 refused_left_out (Some f) c cs h = refl
 
 -- calls whose refusal depends on something in them alone
-pub unrefused_map : {C X : Type 0} (f : C → X) (refusal : X → Option Refusal) (cs : List C) → map f (unrefused (λ c. refusal (f c)) cs) ≡ unrefused refusal (map f cs)
+pub unrefused_map : {C X F : Type 0} (f : C → X) (refusal : X → Option F) (cs : List C) → map f (unrefused (λ c. refusal (f c)) cs) ≡ unrefused refusal (map f cs)
 unrefused_map f refusal [] = refl
 unrefused_map f refusal (c ∷ cs) = go (refusal (f c)) (unrefused_map f refusal cs)
   where
-    go : (n : Option Refusal) → map f (unrefused (λ c. refusal (f c)) cs) ≡ unrefused refusal (map f cs)
+    go : {F : Type 0} (n : Option F) → map f (unrefused (λ c. refusal (f c)) cs) ≡ unrefused refusal (map f cs)
         → map f (keep_unless n c (unrefused (λ c. refusal (f c)) cs)) ≡ keep_unless n (f c) (unrefused refusal (map f cs))
     go None e = λ i. f c ∷ e i
     go (Some r) e = e

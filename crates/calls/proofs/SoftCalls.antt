@@ -17,7 +17,7 @@ use Rattle.calls.specs.CodeCalls.{Way, by_value, in_place}
 use Rattle.calls.specs.SoftCalls.{SoftCall, plainly, SoftAnswered, SoftLeaves, CodeReceivesSoft, SoftInPlaceSays, SoftReturn, SoftHad}
 use Rattle.calls.proofs.Demands.{demand_2}
 use Rattle.calls.proofs.PackingCalls.{slice, lent_to_write, code_packs}
-use Rattle.calls.proofs.Steps.{pack_order_lem, pack_sendable, pack_sent}
+use Rattle.calls.proofs.Steps.{model_is, pack_order_lem, pack_sendable, pack_sent}
 
 -- the two clauses of the call in place say exactly that
 pub soft_in_place_says : SoftInPlaceSays
@@ -72,10 +72,10 @@ soft_owed_made way d h =
 -- a frame that is received alike with these confidences and without: the model's step
 plain_step : (way : Way) (d : SoftCall) → CodeReceivesSoft way d
     → soft_receive d.order d.given d.frame d.confidences ≡ receive d.order d.given d.frame → ReceiveStep (plainly d)
-unfolding receive
 plain_step way d m same =
     let x = soft_owes way d m in
-    λ i. record { answer = answer_of ((x.0 ∙ ap (λ (y : Received). y.answer) same) i); state = (x.1 ∙ ap (λ (y : Received). y.next) same) i }
+    (λ i. record { answer = answer_of ((x.0 ∙ ap (λ (y : Received). y.answer) same) i); state = (x.1 ∙ ap (λ (y : Received). y.next) same) i })
+    ∙ sym (model_is d.given (record { order = d.order; frame = d.frame }))
 
 -- the set that was packed returns
 pub soft_return : SoftReturn

@@ -1,18 +1,16 @@
 -- Document 01, "Lists of calls": calls as they are observed, lists of them on one sender and on one receiver, and the channel between.
 use Rattle.std.specs.Prelude.{ℕ, suc, ◌≡◌, Bool, List, [], ◌∷◌, ◌++◌, take, drop, Option, None, Some, Result, Ok, Err}
-use Rattle.refusal.specs.Refusals.{number_of}
-use Rattle.refusal.specs.declared.Refusal.{Refusal}
 use Rattle.order.specs.Order.{through}
 use Rattle.sets.specs.declared.ParameterSet.{ParameterSet}
 use Rattle.receiver.specs.declared.FrameResult.{FrameResult}
 use Rattle.records.specs.declared.Record.{Record}
-use Rattle.calls.specs.Model.{Answer, done, refused, Outcome, PackKind, pack_model, ReceiveKind, answer_of, receive_model}
+use Rattle.calls.specs.Model.{Answer, done, refused, Outcome, PackKind, pack_model, ReceiveKind, answer_by, receive_model}
 
 -- a packing call of a kind: its arguments, the sync bit it was given, its answer, and the lent output afterwards
 pub record PackCall (P : PackKind) : Type 0 where
   pub arguments : P.Arguments
   pub given : Bool
-  pub answer : Result Bool Refusal
+  pub answer : Result Bool P.Refused
   pub output : List ℕ
 
 -- the order that it is lent, the set that it is to pack, and what refuses it
@@ -22,11 +20,11 @@ pack_order {P} c = P.order c.arguments
 abbrev pub set_in : {P : PackKind} → PackCall P → ParameterSet
 set_in {P} c = P.set c.arguments
 
-abbrev pub pack_call_refusal : {P : PackKind} → PackCall P → Option Refusal
+abbrev pub pack_call_refusal : {P : PackKind} → PackCall P → Option P.Refused
 pack_call_refusal {P} c = P.refusal c.given c.arguments
 
 -- the sync bit after it: the one it returned, or after a refusal the one it was given, which its holder keeps
-abbrev pub sync_after : Bool → Result Bool Refusal → Bool
+abbrev pub sync_after : {F : Type 0} → Bool → Result Bool F → Bool
 sync_after given (Ok next) = next
 sync_after given (Err f) = given
 
@@ -38,18 +36,18 @@ abbrev pub sent : {P : PackKind} → PackCall P → List ℕ
 sent c = take 7 c.output
 
 -- what is compared of it: the seven bytes or the number, and the sync bit after it
-abbrev pub pack_answer_of : Result Bool Refusal → List ℕ → Answer (List ℕ)
-pack_answer_of (Ok next) bytes = done bytes
-pack_answer_of (Err f) bytes = refused (number_of f)
+abbrev pub pack_answer_of : {F : Type 0} → (F → ℕ) → Result Bool F → List ℕ → Answer (List ℕ)
+pack_answer_of number (Ok next) bytes = done bytes
+pack_answer_of number (Err f) bytes = refused (number f)
 
 abbrev pub pack_outcome : {P : PackKind} → PackCall P → Outcome (List ℕ) Bool
-pack_outcome c = record { answer = pack_answer_of c.answer (sent c); state = pack_left c }
+pack_outcome {P} c = record { answer = pack_answer_of P.number c.answer (sent c); state = pack_left c }
 
 -- a receiving call of a kind, by value or in place: its arguments, the record it was given, its answer, and the record that it returned or left
 pub record ReceiveCall (R : ReceiveKind) : Type 0 where
   pub arguments : R.Arguments
   pub given : Record
-  pub answer : Result FrameResult Refusal
+  pub answer : Result FrameResult R.Refused
   pub left : Record
 
 -- the order that it is lent, the frame that it gets, and what refuses it
@@ -59,12 +57,12 @@ receive_order {R} c = R.order c.arguments
 abbrev pub frame_in : {R : ReceiveKind} → ReceiveCall R → List ℕ
 frame_in {R} c = R.frame c.arguments
 
-abbrev pub receive_call_refusal : {R : ReceiveKind} → ReceiveCall R → Option Refusal
+abbrev pub receive_call_refusal : {R : ReceiveKind} → ReceiveCall R → Option R.Refused
 receive_call_refusal {R} c = R.refusal c.given c.arguments
 
 -- what is compared of it: every part of the result or the number, and the record after it
 abbrev pub receive_outcome : {R : ReceiveKind} → ReceiveCall R → Outcome FrameResult Record
-receive_outcome c = record { answer = answer_of c.answer; state = c.left }
+receive_outcome {R} c = record { answer = answer_by R.number c.answer; state = c.left }
 
 -- what all lent bytes of a packing call hold afterwards: those past the seventh as before, after a refusal all
 abbrev pub lent_after : Answer (List ℕ) → List ℕ → List ℕ
@@ -93,11 +91,11 @@ abbrev pub ReceiveRun : {R : ReceiveKind} → (ReceiveCall R → Type 0) → Rec
 ReceiveRun Keeps = Run (λ c. c.given) (λ c. c.left) Keeps
 
 -- the calls that are not refused
-abbrev pub keep_unless : {C : Type 0} → Option Refusal → C → List C → List C
+abbrev pub keep_unless : {C F : Type 0} → Option F → C → List C → List C
 keep_unless None c cs = c ∷ cs
 keep_unless (Some f) c cs = cs
 
-abbrev pub unrefused : {C : Type 0} → (C → Option Refusal) → List C → List C
+abbrev pub unrefused : {C F : Type 0} → (C → Option F) → List C → List C
 unrefused refusal [] = []
 unrefused refusal (c ∷ cs) = keep_unless (refusal c) c (unrefused refusal cs)
 

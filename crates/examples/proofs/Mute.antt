@@ -16,10 +16,11 @@ use Rattle.receiver.specs.Steps.{repeated, step}
 use Rattle.receiver.specs.Receiving.{receive}
 use Rattle.records.specs.declared.FrameKind.{FrameKind}
 use Rattle.records.specs.declared.Record.{Record}
-use Rattle.receiver.specs.declared.Received.{Received}
+use Rattle.receiver.specs.declared.FrameResult.{FrameResult}
 use Rattle.receiver.proofs.Refusals.{not_refused, receive_taken}
 use Rattle.records.proofs.Validity.{fresh_valid, counted_valid, valid_ranges}
-use Rattle.calls.specs.Model.{outcomes, answer_of, receive_model, receive_kind}
+use Rattle.calls.specs.Model.{Outcome, outcomes, outcome_of, receive_model, receive_kind}
+use Rattle.calls.proofs.Steps.{model_is}
 use Rattle.bits.specs.Lists.{Every}
 use Rattle.examples.specs.Examples.{Erases, in_default, mute_in, Mutes}
 
@@ -35,12 +36,12 @@ erased_repeats r bytes v e =
 
 erased_mutes : (frames : List (List ℕ)) (r : Record) → T (valid r) → Every Erases frames
     → map (λ o. mute_in o.answer) (outcomes (receive_model receive_kind) r (map in_default frames)) ≡ mutes_from r.kinds (length frames)
-unfolding repeated receive
+unfolding repeated
 erased_mutes [] r v h = refl
 erased_mutes (b ∷ bs) r v h =
-    let e = erased_repeats r b v h.0 in
-    let here = ap (λ (y : Received). mute_in (answer_of y.answer)) e in
-    let rest = ap (λ (y : Received). map (λ o. mute_in o.answer) (outcomes (receive_model receive_kind) y.next (map in_default bs))) e in
+    let e = model_is r (in_default b) ∙ ap outcome_of (erased_repeats r b v h.0) in
+    let here = ap (λ (o : Outcome FrameResult Record). mute_in o.answer) e in
+    let rest = ap (λ (y : Outcome FrameResult Record). map (λ o. mute_in o.answer) (outcomes (receive_model receive_kind) y.state (map in_default bs))) e in
     ap₂ (λ (m : Bool) (ms : List Bool). m ∷ ms) here
     (rest ∙ erased_mutes bs (after_repeat r) (counted_valid r.last r.g2 (pushed r.kinds repeated_kind) (valid_ranges r v)) h.1)
 
