@@ -14,7 +14,7 @@ use refusal::Refusal;
 pub fn lsf_row(codebook: &[i64], stage: u8, index: u8) -> &[i64]
     ensures { result.now ≡ row_unless (lsf_row_refusal codebook.now stage index) (lsf_row codebook.now stage index) }
 {
-    stage_row(codebook, stage, index).unwrap_or(&[])
+    stage_row(codebook, stage, index).unwrap_or(&codebook[..0])
 }
 
 // The number of the refusal of that row, 0 is none. Refused: 5, an index past the rows of its stage, and any of another
@@ -29,7 +29,7 @@ pub fn lsf_row_refusal(codebook: &[i64], stage: u8, index: u8) -> u8
 pub fn magnitude_row(codebook: &[i64], index: u16) -> &[i64]
     ensures { result.now ≡ row_unless (magnitude_row_refusal codebook.now index) (magnitude_row codebook.now index) }
 {
-    row_of_magnitudes(codebook, index).unwrap_or(&[])
+    row_of_magnitudes(codebook, index).unwrap_or(&codebook[..0])
 }
 
 // The number of the refusal of that row, 0 is none. Refused: 5, an index past 255; 6 and 7 likewise.
