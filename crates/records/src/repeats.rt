@@ -8,7 +8,12 @@ use crate::FrameKind;
 pub(crate) fn count_repeats(kinds: [FrameKind; 16]) -> u8
     ensures { result ≡ repeats_in kinds }
 {
-    kinds.iter().filter(|kind| kind.repeat).count() as u8
+    let mut repeats: u8 = 0;
+    // in eight bits: by `filter` and `count`, which add in 64, the test of a record took five times as long
+    for kind in &kinds {
+        repeats += u8::from(kind.repeat);
+    }
+    repeats
 }
 
 // Whether a result is to be muted, by how many of the kinds are repeats: at least eight.

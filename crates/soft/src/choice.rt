@@ -30,10 +30,15 @@ fn least_key(prices: &[u16; 16]) -> u16
 }
 
 // How many code words have this cost.
-fn count_of(prices: &[u16; 16], cost: u16) -> usize
+fn count_of(prices: &[u16; 16], cost: u16) -> u8
     ensures { result ≡ as_cheap prices.now cost }
 {
-    prices.iter().filter(|&&price| price / 16 == cost).count()
+    let mut count: u8 = 0;
+    // in eight bits: by `filter` and `count`, which add in 64, the choice took a quarter more instructions
+    for price in prices {
+        count += u8::from(*price / 16 == cost);
+    }
+    count
 }
 
 // Whether the word is erased where this is the least cost: word A, by two or more code words that have it.
