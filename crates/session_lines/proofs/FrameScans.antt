@@ -5,7 +5,7 @@ use mathlib.Core.List.{List, [], ◌∷◌, ◌++◌}
 use Prim.Native.Nat.{ℕ, ◌≤◌}
 use native.Mathlib.Omega.{arith}
 use lib.ListN.{length, take, drop, length-drop, take-append-drop}
-use lib.Seq.{take_at, drop_at, length-take-le, take-take, drop-drop, append_snoc}
+use lib.Seq.{take_at, drop_at, length-take-le, take-take, take-add, drop-drop, append_snoc}
 use Rattle.text.specs.Text.{ascii}
 use Rattle.session_lines.specs.Lines.{line_of, all_hex, hex_bytes, is_frame_line, frame_of}
 use Rattle.session_lines.specs.Scans.{begins}
@@ -16,10 +16,14 @@ use Rattle.session_lines.proofs.HexDigits.{hex_plain}
 use Rattle.session_lines.proofs.FrameLines.{digits_line, digits_are, digits_line_lem}
 
 -- the digits of the first 17 bytes are those of the text
-part_is : (t : List ℕ) → take 14 (drop 2 (take 17 t)) ≡ take 14 (drop 2 t)
+pub part_is : (t : List ℕ) → take 14 (drop 2 (take 17 t)) ≡ take 14 (drop 2 t)
 part_is [] = refl
 part_is (a ∷ []) = refl
 part_is (a ∷ b ∷ cs) = take-take 14 15 cs (omega arith)
+
+-- and what follows these digits is one byte of it
+pub end_is : (t : List ℕ) → 17 ≤ length t → drop 14 (drop 2 (take 17 t)) ≡ take 1 (drop 16 t)
+end_is t h = drop-drop 14 2 (take 17 t) ∙ ap (drop 16) (take-add 16 1 t) ∙ drop_at (take 16 t) (take 1 (drop 16 t)) 16 (length-take-le 16 t (omega (arith, h)))
 
 -- a first line that is a frame's is the first 17 bytes of the text
 pub frame_is : (t : List ℕ) → is_frame_line (line_of t) ≡ true

@@ -56,6 +56,7 @@ fn digits_at(text: &[u8], at: usize) -> Option<&[u8; 14]>
 {
     let (digits, rest) = text
         .get(at..)?
+        .first_chunk::<17>()?
         .strip_prefix(b"f=")?
         .split_first_chunk::<14>()?;
     if rest.starts_with(b"\n") & all_hex(digits) {

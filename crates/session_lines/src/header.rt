@@ -1,9 +1,9 @@
 // The three lines before the frames.
-ghost use Rattle.std.specs.Prelude.{◌≡◌, ◌≤◌, take};
+ghost use Rattle.std.specs.Prelude.{◌≡◌, ◌+◌, ◌≤◌, true, false, length, take, drop, MatchOption};
 ghost use Rattle.refusal.specs.declared.Refusal.TheVariants.{BadLine};
 ghost use Rattle.session_lines.specs.Lines.{digits_value};
 ghost use Rattle.session_lines.specs.Headers.{header_of};
-ghost use Rattle.session_lines.specs.Scans.{digits_in, counted};
+ghost use Rattle.session_lines.specs.Scans.{begins, digits_in, counted};
 
 use refusal::Refusal;
 
@@ -27,6 +27,22 @@ pub struct LineRefusal {
 struct Count {
     value: usize,
     digits: usize,
+}
+
+// What follows these bytes, where a text begins with them. There is no early end: so the compiler compares many at once. std's
+// `strip_prefix` compares some of them twice.
+fn after<'a>(text: &'a [u8], bytes: &[u8]) -> Option<&'a [u8]>
+    ensures { MatchOption result (begins bytes.now text.now ≡ false) (λ rest. (begins bytes.now text.now ≡ true) × (rest.now ≡ drop (length bytes.now) text.now)) }
+{
+    let (front, rest) = text.split_at_checked(bytes.len())?;
+    let same = bytes
+        .iter()
+        .zip(front)
+        .fold(true, |same, (b, c)| same & (*b == *c));
+    if !same {
+        return None;
+    }
+    Some(rest)
 }
 
 // The number in front of a text: four digits at most. The turns are counted, and not those of a slice's iterator, which was slower: so
@@ -55,7 +71,7 @@ fn count_in(text: &[u8]) -> Count
 fn read_count(text: &[u8]) -> Option<Header>
     ensures { result ≡ counted text.now }
 {
-    let number = text.strip_prefix(b"frames=")?;
+    let number = after(text, b"frames=")?;
     let count = count_in(number);
     if number.len() <= count.digits {
         return None;
@@ -85,10 +101,10 @@ fn bad(line: u16) -> LineRefusal
 pub fn read_header(text: &[u8]) -> Result<Header, LineRefusal>
     ensures { result ≡ header_of text.now }
 {
-    let Some(lines) = text.strip_prefix(b"file=melp\n") else {
+    let Some(lines) = after(text, b"file=melp\n") else {
         return Err(bad(1));
     };
-    let Some(lines) = lines.strip_prefix(b"order=house\n") else {
+    let Some(lines) = after(lines, b"order=house\n") else {
         return Err(bad(2));
     };
     read_count(lines).ok_or(bad(3))

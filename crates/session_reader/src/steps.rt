@@ -92,7 +92,9 @@ fn step_after(text: &[u8], header: Header, at: usize) -> Step
 }
 
 // What stands at an offset; reading begins at 0. Refused: 8, a line that belongs to no session file, the first three judged
-// first, or an offset where no line can start; 3, a frame's line with one of its last two bits set.
+// first, or an offset where no line can start; 3, a frame's line with one of its last two bits set. It is copied into its callers: so
+// the compiler keeps only what each of them needs.
+#[inline]
 pub fn parse_at(text: &[u8], at: usize) -> Step
     ensures { result ≡ step_at text.now at }
 {

@@ -10,7 +10,6 @@ use Rattle.text.specs.Text.{ascii}
 use Rattle.session.specs.Format.{header, most_frames}
 use Rattle.session_lines.specs.Lines.{line_of, digits_value, is_count_line}
 use Rattle.session_lines.specs.Scans.{begins, digits_in, counted}
-use Rattle.session_lines.proofs.Scans.{starts}
 use Rattle.session_lines.proofs.CountScans.{well_ended}
 use Rattle.session_lines.proofs.HeaderScans.{rest, n, size, third_scan, scan_size}
 use Rattle.session_lines.proofs.header.read_count.Goals as goal
@@ -55,31 +54,31 @@ module _ (text number : List ℕ) (value digits : ℕ) (name : begins (ascii "fr
   counted_bad e = rw (tested ∙ e) refl
 
 pub returns-in_err-number : goal.returns-in_err-number
-returns-in_err-number c = c.from_residual.ensures ∙ unnamed c.args.text.now (sym (starts (ascii "frames=") c.args.text.now) ∙ c.in_err-number.ensures.cases)
+returns-in_err-number c = c.from_residual.ensures ∙ unnamed c.args.text.now (c.in_err-number.ensures)
 
 pub returns-then-number-count : goal.returns-then-number-count
 returns-then-number-count c =
     let text = c.args.text.now in
     let number = c.in_ok-number.number.now in
     let count = c.count_in-count in
-    let strip = c.in_ok-number.ensures.cases in
+    let strip = c.in_ok-number.ensures in
     let out : eqb (get_or number count.result.digits 0) 10 ≡ false = ap (λ (b : ℕ). eqb b 10) (get_or-eq_default number 0 c.if-number-count.true) in
     let front = leb count.result.value most_frames && (ltb 48 (get_or number 0 0) || eqb count.result.digits 1) in
-    counted_bad text number count.result.value count.result.digits (sym (starts (ascii "frames=") text) ∙ strip.0) strip.1 count.ensures.value count.ensures.digits
+    counted_bad text number count.result.value count.result.digits strip.0 strip.1 count.ensures.value count.ensures.digits
     (ap (λ (b : Bool). front && b) out ∙ and-false front)
 
 pub returns-then-count-plain : goal.returns-then-count-plain
 returns-then-count-plain c =
     let text = c.args.text.now in
     let count = c.count_in-count in
-    let strip = c.in_ok-number.ensures.cases in
-    counted_good text c.in_ok-number.number.now count.result.value count.result.digits (sym (starts (ascii "frames=") text) ∙ strip.0) strip.1 count.ensures.value count.ensures.digits
+    let strip = c.in_ok-number.ensures in
+    counted_good text c.in_ok-number.number.now count.result.value count.result.digits strip.0 strip.1 count.ensures.value count.ensures.digits
     c.if-count-plain.true
 
 pub returns-else-count-plain : goal.returns-else-count-plain
 returns-else-count-plain c =
     let text = c.args.text.now in
     let count = c.count_in-count in
-    let strip = c.in_ok-number.ensures.cases in
-    counted_bad text c.in_ok-number.number.now count.result.value count.result.digits (sym (starts (ascii "frames=") text) ∙ strip.0) strip.1 count.ensures.value count.ensures.digits
+    let strip = c.in_ok-number.ensures in
+    counted_bad text c.in_ok-number.number.now count.result.value count.result.digits strip.0 strip.1 count.ensures.value count.ensures.digits
     c.if-count-plain.false

@@ -13,7 +13,6 @@ use Rattle.session_lines.specs.Lines.{count_of, is_count_line}
 use Rattle.session_lines.specs.Scans.{begins, counted}
 use Rattle.session_lines.specs.Headers.{third_line, frames_in, first_place, told_unless, header_of}
 use Rattle.session_lines.specs.declared.header.LineRefusal.{LineRefusal}
-use Rattle.session_lines.proofs.Scans.{starts}
 use Rattle.session_lines.proofs.HeaderLines.{bad_is}
 use Rattle.session_lines.proofs.header.read_header.Goals as goal
 
@@ -44,24 +43,22 @@ module _ (text : List ℕ) where
 pub returns-in_default : goal.returns-in_default
 returns-in_default c =
     let text = c.args.text.now in
-    ap Err c.bad.ensures ∙ by_first text (sym (starts file_line text) ∙ c.in_default.ensures.cases)
+    ap Err c.bad.ensures ∙ by_first text (c.in_default.ensures)
 
-pub returns-in_default-strip_prefix : goal.returns-in_default-strip_prefix
-returns-in_default-strip_prefix c =
+pub returns-in_default-after : goal.returns-in_default-after
+returns-in_default-after c =
     let text = c.args.text.now in
-    let lines = c.in-Some.lines.now in
-    let first = c.in-Some.ensures.cases in
-    let order = sym (ap (begins order_line) first.1) ∙ sym (starts order_line lines) ∙ c.in_default-strip_prefix.ensures.cases in
-    ap Err c.bad-in_default-strip_prefix.ensures ∙ by_second text (sym (starts file_line text) ∙ first.0) order
+    let first = c.in-Some.ensures in
+    let order = sym (ap (begins order_line) first.1) ∙ c.in_default-after.ensures in
+    ap Err c.bad-in_default-after.ensures ∙ by_second text first.0 order
 
 pub returns : goal.returns
 returns c =
     let text = c.args.text.now in
-    let lines = c.in-Some.lines.now in
-    let first = c.in-Some.ensures.cases in
-    let second = c.in-Some-strip_prefix.ensures.cases in
-    let order = sym (ap (begins order_line) first.1) ∙ sym (starts order_line lines) ∙ second.0 in
+    let first = c.in-Some.ensures in
+    let second = c.in-Some-after.ensures in
+    let order = sym (ap (begins order_line) first.1) ∙ second.0 in
     let rest = second.1 ∙ ap (drop 12) first.1 ∙ drop-drop 12 10 text in
     c.ok_or.ensures.value
     ∙ (λ i. ok_or ((c.read_count.ensures ∙ ap counted rest) i) (c.bad-2.ensures i))
-    ∙ by_third text (sym (starts file_line text) ∙ first.0) order
+    ∙ by_third text first.0 order
