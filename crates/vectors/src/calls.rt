@@ -1,5 +1,7 @@
 // The call of a vector, by its kind.
-use crate::codebooks::codebook_of;
+ghost use Rattle.std.specs.Prelude.{◌≤◌};
+
+use crate::codebooks::{HELD, write_codebook};
 use crate::orders::order_fits;
 use crate::vector::Vector;
 use crate::{
@@ -25,14 +27,21 @@ fn with_order<F: FnOnce(&Vector, ParameterSet) -> bool>(vector: &Vector, agrees:
     order_fits(vector) && with_set(vector, agrees)
 }
 
-// A call with a codebook, of at most 3,201 numbers.
+// A call with a codebook of so many numbers.
+fn with_numbers<F: FnOnce(&Vector, &[i64]) -> bool>(vector: &Vector, size: usize, agrees: F) -> bool
+    requires { (size ≤ 3201) × F.IsAlwaysCallable agrees }
+{
+    let mut codebook = [HELD; 3201];
+    write_codebook(vector, &mut codebook[..size]);
+    agrees(vector, &codebook[..size])
+}
+
+// The same with the size that the vector has, which is tested before there is a buffer: no vector has more than 3,201 numbers.
 fn with_codebook<F: FnOnce(&Vector, &[i64]) -> bool>(vector: &Vector, agrees: F) -> bool
     requires { F.IsAlwaysCallable agrees }
 {
-    match codebook_of(vector).get(..vector.number(16, 2)) {
-        Some(codebook) => agrees(vector, codebook),
-        None => false,
-    }
+    let size = vector.number(16, 2);
+    size <= 3201 && with_numbers(vector, size, agrees)
 }
 
 // Whether the libraries answer as the vector says; no vector of another kind agrees. The kinds are numbers, as tests/reference

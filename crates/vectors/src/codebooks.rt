@@ -17,18 +17,16 @@ fn added(i: usize, step: usize, jump: usize) -> usize {
 }
 
 // The numbers from `start` on, modulo 2 to the 64th.
-fn ruled(start: usize, step: usize, jump: usize) -> [i64; 3201] {
-    let mut codebook = [HELD; 3201];
+fn rule(codebook: &mut [i64], start: usize, step: usize, jump: usize) {
     let mut value = start;
     for (i, entry) in codebook.iter_mut().enumerate() {
         *entry = signed(value);
         value = value.wrapping_add(added(i, step, jump));
     }
-    codebook
 }
 
 // The replacement in the ten bytes from `at`: another number at a place; past the last one nothing changes.
-fn replace_by(codebook: &mut [i64; 3201], vector: &Vector, at: usize)
+fn replace_by(codebook: &mut [i64], vector: &Vector, at: usize)
     requires { at ≤ 246 }
 {
     if let Some(entry) = codebook.get_mut(vector.number(at, 2)) {
@@ -36,17 +34,18 @@ fn replace_by(codebook: &mut [i64; 3201], vector: &Vector, at: usize)
     }
 }
 
-// The numbers that bytes 18 to 71 give: the rule, and three replacements.
-pub(crate) fn codebook_of(vector: &Vector) -> [i64; 3201] {
-    let mut codebook = ruled(
+// The numbers that bytes 18 to 71 give: the rule, and three replacements. They are put where they stand: an array handed back
+// would be copied.
+pub(crate) fn write_codebook(vector: &Vector, codebook: &mut [i64]) {
+    rule(
+        codebook,
         vector.number(18, 8),
         vector.number(26, 8),
         vector.number(34, 8),
     );
-    replace_by(&mut codebook, vector, 42);
-    replace_by(&mut codebook, vector, 52);
-    replace_by(&mut codebook, vector, 62);
-    codebook
+    replace_by(codebook, vector, 42);
+    replace_by(codebook, vector, 52);
+    replace_by(codebook, vector, 62);
 }
 
 // Whether these are the numbers from byte 74, eight bytes each; a vector has twelve at most.

@@ -1,5 +1,5 @@
 // The text of a vector by its rule: so many bytes of a plain text with one change in it.
-ghost use Rattle.std.specs.Prelude.{◌<◌};
+ghost use Rattle.std.specs.Prelude.{◌<◌, length};
 
 use crate::digits::decimal_digit;
 use crate::session_texts::session_byte;
@@ -38,7 +38,9 @@ fn changed_byte(vector: &Vector, j: usize, at: usize, skipped: usize, given: &[u
 }
 
 // The text to the front of a buffer, by bytes 1 to 6 and those from 74 on.
-pub(crate) fn write_text<'a>(vector: &Vector, buffer: &'a mut [u8; 65536]) -> &'a [u8] {
+pub(crate) fn write_text<'a>(vector: &Vector, buffer: &'a mut [u8; 65536]) -> &'a [u8]
+    ensures { length result.now < 65536 }
+{
     let size = vector.number(1, 2);
     let at = vector.number(3, 2);
     let skipped = vector.number(5, 1);
