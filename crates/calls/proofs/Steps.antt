@@ -56,7 +56,7 @@ answer_back number (Ok y) x e = grind arith
 answer_back number (Err f) x e = grind arith
 
 -- where the table's refusals have the table's numbers, the outcome is what the receiver gives
-outcome_is : (n : Option Refusal) (ord : List ℕ) (r : Record) (bytes : List ℕ) → outcome_unless number_of n ord r bytes ≡ outcome_of (receive_unless n ord r bytes)
+pub outcome_is : (n : Option Refusal) (ord : List ℕ) (r : Record) (bytes : List ℕ) → outcome_unless number_of n ord r bytes ≡ outcome_of (receive_unless n ord r bytes)
 outcome_is None ord r bytes = refl
 outcome_is (Some f) ord r bytes = refl
 
